@@ -1,0 +1,55 @@
+use mathlib.Core.Path.{_≡_, refl, sym, ap, _∙_}
+use mathlib.Core.List.{List, [], _∷_, _++_, append-assoc}
+use Prim.Native.Nat.{ℕ, _+_, _*_, _/_, _%_, _^_, _≤_, _<_, suc}
+use native.Mathlib.Omega.{arith}
+use lib.ListN.{length, getD, take, drop, set, length-append, length-drop}
+use lib.Seq.{set-split, length-take-le}
+use mathlib.Core.Bool.{true}
+use lib.IntN.{ℤ, pos, negsuc, natAbs}
+use lib.Signed.{ltZ}
+use borrow.Author.Tests.{ltb-true}
+use Rattle.std.specs.Written.{decimal, signed}
+use Rattle.std.proofs.shelf.Decimals.{decimal-digit, decimal-step}
+use Rattle.std.proofs.shelf.Lists.{take-at, drop-at, drop-drop}
+use Rattle.text.specs.Space.{written}
+
+pub length-one : (n : ℕ) → n < 10 → length (decimal n) ≡ 1
+length-one n h = ap length (decimal-digit n h)
+
+pub length-more : (n : ℕ) → 10 ≤ n → n < 2 ^ 64 → length (decimal n) ≡ length (decimal (n / 10)) + 1
+length-more n h f = ap length (decimal-step n h f) ∙ length-append (decimal (n / 10)) ((48 + n % 10) ∷ [])
+
+pub length-written : (s : List ℕ) (at : ℕ) (t : List ℕ) → at + length t ≤ length s → length (written s at t) ≡ length s
+length-written s at t h = simp (length-append, length-drop) (let e : length (take at s) ≡ at = length-take-le at s (omega arith) in omega arith)
+
+-- one text after another
+pub written-two : (s : List ℕ) (at : ℕ) (t u : List ℕ) (k : ℕ) → at + length t ≡ k → k + length u ≤ length s → written (written s at t) k u ≡ written s at (t ++ u)
+written-two s at t u k e h =
+    let front = take at s in
+    let rest = drop (at + length t) s in
+    let group : front ++ (t ++ rest) ≡ (front ++ t) ++ rest = sym (append-assoc front t rest) in
+    let long : length (front ++ t) ≡ k = simp length-append (let f : length (take at s) ≡ at = length-take-le at s (omega arith) in omega arith) in
+    let first : take k (front ++ (t ++ rest)) ≡ front ++ t = ap (take k) group ∙ take-at (front ++ t) rest k long in
+    let cut : drop k (front ++ (t ++ rest)) ≡ rest = ap (drop k) group ∙ drop-at (front ++ t) rest k long in
+    let place : at + length t + length u ≡ at + length (t ++ u) = omega (arith, length-append t u) in
+    let second : drop (k + length u) (front ++ (t ++ rest)) ≡ drop (at + length (t ++ u)) s = sym (drop-drop (length u) k (front ++ (t ++ rest))) ∙ ap (drop (length u)) cut ∙ drop-drop (length u) (at + length t) s ∙ ap (λ n. drop n s) place in
+    ap (λ l. l ++ (u ++ drop (k + length u) (front ++ (t ++ rest)))) first ∙ ap (λ l. (front ++ t) ++ (u ++ l)) second ∙ append-assoc front t (u ++ drop (at + length (t ++ u)) s) ∙ ap (λ l. front ++ l) (sym (append-assoc t u (drop (at + length (t ++ u)) s)))
+
+pub written-one : (s : List ℕ) (k b : ℕ) → k < length s → set s k b ≡ written s k (b ∷ [])
+written-one s k b h = let e : suc k ≡ k + 1 = omega arith in set-split s k b h ∙ ap (λ n. take k s ++ (b ∷ drop n s)) e
+
+pub written-byte : (s : List ℕ) (at : ℕ) (t : List ℕ) (b k : ℕ) → at + length t ≡ k → k < length s → set (written s at t) k b ≡ written s at (t ++ (b ∷ []))
+written-byte s at t b k e h =
+    let same = length-written s at t (omega arith) in
+    written-one (written s at t) k b (omega arith) ∙ written-two s at t (b ∷ []) k e (omega arith)
+
+pub signed-negative : (v w : ℤ) (n : ℕ) → w ≡ v → ltZ w (pos 0) ≡ true → n ≡ natAbs w → signed v ≡ 45 ∷ decimal n
+signed-negative v (pos m) n e h a = absurd (omega (arith, ltb-true m 0 h))
+signed-negative v (negsuc m) n e h a = ap signed (sym e) ∙ ap (λ k. 45 ∷ decimal k) (sym a)
+
+-- a minus and the digits behind it
+pub minus-then : (s t : List ℕ) (at : ℕ) → at + (1 + length t) ≤ length s → written (set s at 45) (at + 1) t ≡ written s at (45 ∷ t)
+minus-then s t at h =
+    let h0 : at < length s = omega arith in
+    let h1 : at + 1 + length t ≤ length s = omega arith in
+    ap (λ l. written l (at + 1) t) (written-one s at 45 h0) ∙ written-two s at (45 ∷ []) t (at + 1) refl h1
