@@ -2,7 +2,7 @@ use mathlib.Core.Path.{_≡_, refl, sym, ap, _∙_}
 use mathlib.Core.List.{List, [], _∷_, _++_, append-assoc}
 use Prim.Native.Nat.{ℕ, _+_, _*_, _/_, _%_, _^_, _≤_, _<_, suc}
 use native.Mathlib.Omega.{arith}
-use lib.ListN.{length, getD, take, drop, set, length-append, length-drop}
+use lib.ListN.{length, getD, take, drop, set, length-append, length-drop, take-append-drop}
 use lib.Seq.{set-split, length-take-le}
 use mathlib.Core.Bool.{true}
 use lib.IntN.{ℤ, pos, negsuc, natAbs}
@@ -53,3 +53,16 @@ minus-then s t at h =
     let h0 : at < length s = omega arith in
     let h1 : at + 1 + length t ≤ length s = omega arith in
     ap (λ l. written l (at + 1) t) (written-one s at 45 h0) ∙ written-two s at (45 ∷ []) t (at + 1) refl h1
+
+pub written-none : (s : List ℕ) (at : ℕ) → written s at [] ≡ s
+written-none s at = let z : at + 0 ≡ at = omega arith in ap (λ k. take at s ++ drop k s) z ∙ take-append-drop at s
+
+-- a mark, a text behind it, and then the rest
+pub mark-then : (s next : List ℕ) (at end m : ℕ) (t rest : List ℕ) → next ≡ written (set s at m) (at + 1) t → end ≡ at + 1 + length t → at + (1 + length t + length rest) ≤ length s → written next end rest ≡ written s at (m ∷ (t ++ rest))
+mark-then s next at end m t rest is e h =
+    let h0 : at < length s = omega arith in
+    let h1 : at + 1 + length t ≤ length s = omega arith in
+    let place : at + suc (length t) ≡ end = omega arith in
+    let h2 : end + length rest ≤ length s = omega arith in
+    ap (λ l. written l end rest) (is ∙ ap (λ l. written l (at + 1) t) (written-one s at m h0) ∙ written-two s at (m ∷ []) t (at + 1) refl h1)
+    ∙ written-two s at (m ∷ t) rest end place h2

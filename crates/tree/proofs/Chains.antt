@@ -96,4 +96,3 @@ arrives n head root inline w word loopless = by (find (λ k. up head k w) 0 (suc
         let t = twice n (λ k. up head k w) (λ k le. let z = n0 k (omega arith) in (omega arith, within head root n inline k w (word .1))) in
         let z = n0 (t .0) (omega arith) in
         absurd (loopless (t .0, t .1, t .2, omega arith, t .4))
-

@@ -1,2 +1,6 @@
 pub mod Chains
+mod Depths
+mod Lines
+mod Rests
+mod Texts
 mod Walks

@@ -34,8 +34,8 @@ pub leads-more : (heads : List ℕ) (seen : List Bool) (w : ℕ) → Leads heads
 leads-more heads seen w leads x h =
     ⊎-elim (λ e. (0, ap (head-of heads) e))
     (λ ne.
-        let was = leads x (sym (getD-set-other seen w x true false ne) ∙ h) in
-        (suc (was .0), up-head (head-of heads) (suc (was .0)) x ∙ ap (head-of heads) (was .1)))
+    let was = leads x (sym (getD-set-other seen w x true false ne) ∙ h) in
+    (suc (was .0), up-head (head-of heads) (suc (was .0)) x ∙ ap (head-of heads) (was .1)))
     (cases-eq x w)
 
 -- a mark more leaves fewer to make
@@ -61,9 +61,9 @@ pub cycle-word : (heads : List ℕ) (w : ℕ) → On-cycle (head-of heads) w →
 cycle-word heads w c =
     ⊎-elim
     (λ past.
-        let z : up (head-of heads) (suc (c .1 .0)) w ≡ 0 = ap (up (head-of heads) (c .1 .0)) (head-past heads w past) ∙ up-root (head-of heads) refl (c .1 .0) in
-        let w0 : w ≡ 0 = sym (c .1 .1) ∙ z in
-        absurd (omega (arith, c .0)))
+    let z : up (head-of heads) (suc (c .1 .0)) w ≡ 0 = ap (up (head-of heads) (c .1 .0)) (head-past heads w past) ∙ up-root (head-of heads) refl (c .1 .0) in
+    let w0 : w ≡ 0 = sym (c .1 .1) ∙ z in
+    absurd (omega (arith, c .0)))
     (λ le. (c .0, le)) (cases-lt (length heads) w)
 
 -- a word that was seen and is met again lies on a cycle

@@ -6,7 +6,7 @@ use Rattle.std.specs.declared.option.Option.the-variants.{Some, None}
 use Rattle.std.specs.declared.option.Option.{Option}
 use Rattle.std.specs.declared.result.Result.the-variants.{Ok, Err}
 use Rattle.std.specs.declared.result.Result.{Result}
-use Rattle.tree.specs.Chains.{Word, head-of, Reaches, Runs-into-cycle, On-cycle}
+use Rattle.tree.specs.Chains.{Word, head-of, up, Reaches, Runs-into-cycle, On-cycle}
 use lib.ListN.{length}
 use mathlib.Core.List.{List}
 use mathlib.Core.Path.{_≡_}
@@ -38,6 +38,10 @@ pub record Line-tree (heads : List ℕ) (root : ℕ) : Type 0 where
   pub few : length heads ≤ 40
   pub shape : Arborescence (length heads) heads
   pub top : Only-root (length heads) heads root
+
+-- every chain of heads is at the root after as many steps as there are words
+abbrev pub Rooted : List ℕ → Type 0
+Rooted heads = (w : ℕ) → w ≤ length heads → up (head-of heads) (length heads) w ≡ 0
 
 -- ---- what the calls tell
 

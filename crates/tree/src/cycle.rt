@@ -1,12 +1,8 @@
-// Cycles in a list of heads, and the check that heads form a tree.
-ghost use Prim.Native.Nat.{ℕ, _+_, _≤_};
+// Cycles in a list of heads.
 ghost use Rattle.std.specs.declared.option.Option.the-variants.{None};
-ghost use Rattle.tree.specs.Chains.{head-of, Word};
-ghost use Rattle.tree.specs.Trees.{Checked, Cycle-free, On-cycle-runs, Only-root, Rooted-is-cycle-free, Told-cycle, Told-root};
-ghost use lib.ListN.{length};
-ghost use mathlib.Core.Bool.{true, false};
+ghost use Rattle.tree.specs.Chains.{head-of};
+ghost use Rattle.tree.specs.Trees.{Cycle-free, On-cycle-runs, Rooted-is-cycle-free, Told-cycle};
 ghost use mathlib.Core.Path.{_≡_};
-use refusal::Refusal;
 
 // The head of a word; 0 for the root, and for a number above the last word.
 fn head(heads: &[u8], word: u8) -> u8

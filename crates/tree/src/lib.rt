@@ -1,2 +1,8 @@
 // Dependency trees as lists of heads: `heads[w - 1]` is the head of word w, and 0 the root.
-pub mod cycle;
+mod brackets;
+mod check;
+mod cycle;
+
+pub use brackets::write_brackets;
+pub use check::check_heads;
+pub use cycle::find_cycle;

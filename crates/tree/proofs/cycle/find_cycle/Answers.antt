@@ -25,10 +25,10 @@ words-again c = below-more _ _ (c .words .inv) (c .loop-word .inv .3 (0, c .loop
 
 pub returns-then-i-heads : need.returns-then-i-heads
 returns-then-i-heads c = record {
-      told = all-cycle-free (c .args .heads .now) (c .words .i) (search needs) (c .words .inv);
-      only = λ _. refl;
-      laws = (rooted-is-cycle-free, on-cycle-runs);
-    }
+  told = all-cycle-free (c .args .heads .now) (c .words .i) (search needs) (c .words .inv);
+  only = λ _. refl;
+  laws = (rooted-is-cycle-free, on-cycle-runs);
+}
 
 pub returns-then-seen-word : need.returns-then-seen-word
 returns-then-seen-word c =
