@@ -5,13 +5,18 @@ use native.Mathlib.Omega.{arith}
 use lib.ListN.{length, getD, take, drop, set, length-append, length-drop, take-append-drop}
 use lib.Seq.{set-split, length-take-le}
 use mathlib.Core.Bool.{true}
+use mathlib.Core.Logic.{_⊎_, inl, inr}
+use Rattle.refusal.specs.declared.Refusal.the-variants.{ShortSpace}
+use Rattle.refusal.specs.declared.Refusal.{Refusal}
+use Rattle.std.specs.declared.result.Result.the-variants.{Ok, Err}
+use Rattle.std.proofs.shelf.Tests.{cases-lt, both-ways}
 use lib.IntN.{ℤ, pos, negsuc, natAbs}
 use lib.Signed.{ltZ}
 use borrow.Author.Tests.{ltb-true}
 use Rattle.std.specs.Written.{decimal, signed}
 use Rattle.std.proofs.shelf.Decimals.{decimal-digit, decimal-step}
 use Rattle.std.proofs.shelf.Lists.{take-at, drop-at, drop-drop}
-use Rattle.text.specs.Space.{written}
+use Rattle.text.specs.Space.{written, Placed}
 
 pub length-one : (n : ℕ) → n < 10 → length (decimal n) ≡ 1
 length-one n h = ap length (decimal-digit n h)
@@ -66,3 +71,18 @@ mark-then s next at end m t rest is e h =
     let h2 : end + length rest ≤ length s = omega arith in
     ap (λ l. written l end rest) (is ∙ ap (λ l. written l (at + 1) t) (written-one s at m h0) ∙ written-two s at (m ∷ []) t (at + 1) refl h1)
     ∙ written-two s at (m ∷ t) rest end place h2
+
+-- an accepted call wrote the text, and a refused one found too little room
+pub placed-ok : (t s : List ℕ) (at end : ℕ) (after : List ℕ) → Placed t s at (Ok end) after → (end ≡ at + length t) × (after ≡ written s at t)
+placed-ok t s at end after p = by (cases-lt (length s) (at + length t))
+  where
+    by : (length s < at + length t) ⊎ (at + length t ≤ length s) → (end ≡ at + length t) × (after ≡ written s at t)
+    by (inl short) = let no = p .short short .0 in ((cc), (cc))
+    by (inr fits) = let yes = p .fits fits .0 in ((cc), p .fits fits .1)
+
+pub placed-err : (t s : List ℕ) (at : ℕ) (why : Refusal) (after : List ℕ) → Placed t s at (Err why) after → (why ≡ ShortSpace) × (length s < at + length t) × (after ≡ s)
+placed-err t s at why after p = by (cases-lt (length s) (at + length t))
+  where
+    by : (length s < at + length t) ⊎ (at + length t ≤ length s) → (why ≡ ShortSpace) × (length s < at + length t) × (after ≡ s)
+    by (inl short) = let yes = p .short short .0 in ((cc), short, p .short short .1)
+    by (inr fits) = let no = p .fits fits .0 in absurd (both-ways true (cc) refl)

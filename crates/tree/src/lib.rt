@@ -6,3 +6,6 @@ mod cycle;
 pub use brackets::write_brackets;
 pub use check::check_heads;
 pub use cycle::find_cycle;
+
+#[cfg(test)]
+mod tests;
