@@ -1,0 +1,3 @@
+pub mod Worths
+pub mod Ranges
+pub mod Places
