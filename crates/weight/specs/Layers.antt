@@ -6,10 +6,14 @@ use lib.Dec.{eqb}
 use lib.IntN.{ℤ, pos, negsuc}
 use Rattle.weight.specs.Worth.{Worth}
 use Rattle.weight.specs.declared.front.Front.{Front}
+use Rattle.weight.specs.declared.mark.Mark.{Mark}
 use Rattle.weight.specs.declared.root.Root.{Root}
 
 abbrev pub front-worth : {K : Type 0} → (K → Worth) → Front K → Worth
 front-worth f x = x .place ∷ f (x .rest)
+
+abbrev pub mark-worth : {K : Type 0} → (K → Worth) → Mark K → Worth
+mark-worth f x = front-worth f (x .0)
 
 abbrev pub root-worth : {K : Type 0} → (K → Worth) → Root K → Worth
 root-worth f x = front-worth f (x .0)

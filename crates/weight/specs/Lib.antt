@@ -1,5 +1,5 @@
 pub mod Worth
 pub mod Range
 pub mod Text
-pub mod Scores
+pub mod Numbers
 pub mod Layers

@@ -1,8 +1,14 @@
 // A place in front of a weight of any kind: what the layers share.
 ghost use mathlib.Core.Path.{_≡_};
-ghost use Rattle.weight.specs.Worth.{Sum-is, Difference-is, order};
+ghost use mathlib.Core.List.{_∷_};
+ghost use Prim.Native.Nat.{suc};
+ghost use Rattle.weight.specs.Worth.{zeros, Sum-is, Difference-is, order};
 ghost use Rattle.weight.specs.Layers.{front-worth};
+ghost use Rattle.weight.specs.Range.{entry-in};
+ghost use Rattle.weight.specs.Text.{Shown};
 use crate::Kind;
+use crate::show_front;
+use refusal::Refusal;
 use std::cmp::Ordering;
 
 #[derive(Clone, Copy)]
@@ -12,6 +18,15 @@ pub(crate) struct Front<K> {
 }
 
 impl<K: Kind> Front<K> {
+    pub fn nothing() -> Front<K>
+        ensures { λ r. ⌜ front-worth (K·Kind .worth) r ≡ zeros (suc (K·Kind .places)) ⌝ }
+    {
+        Front {
+            place: 0,
+            rest: K::nothing(),
+        }
+    }
+
     pub fn sum(&self, other: &Front<K>) -> Front<K>
         ensures { λ r. ⌜ Sum-is (front-worth (K·Kind .worth) (now (self .entry))) (front-worth (K·Kind .worth) (now (other .entry))) (front-worth (K·Kind .worth) r) ⌝ }
     {
@@ -40,5 +55,18 @@ impl<K: Kind> Front<K> {
             return Ordering::Greater;
         }
         self.rest.compare(&other.rest)
+    }
+
+    // Whether the place lies from the least to the greatest, and the rest is an entry of its kind.
+    pub fn entry(&self, least: i64, greatest: i64) -> bool
+        ensures { λ r. ⌜ r ≡ entry-in (record { least = least; greatest = greatest } ∷ K·Kind .ranges) (front-worth (K·Kind .worth) (now (self .entry))) ⌝ }
+    {
+        least <= self.place && self.place <= greatest && self.rest.entry()
+    }
+
+    pub fn show(&self, space: &mut [u8]) -> Result<usize, Refusal>
+        ensures { λ r. ⌜ Shown (front-worth (K·Kind .worth) (now (self .entry))) (now (space .entry)) (now (space .exit)) r ⌝ }
+    {
+        show_front(self.place, &self.rest, space)
     }
 }

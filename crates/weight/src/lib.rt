@@ -9,11 +9,20 @@ ghost use Rattle.weight.specs.Text.{Shown};
 use refusal::Refusal;
 use std::cmp::Ordering;
 
+mod cost;
 mod front;
+mod mark;
 mod root;
 mod score;
 mod showing;
 
+pub use cost::Cost;
+pub use cost::CostKind;
+pub use cost::CostOpens;
+pub use mark::Mark;
+pub use mark::MarkClone;
+pub use mark::MarkKind;
+pub use mark::MarkOpens;
 pub use root::Root;
 pub use root::RootClone;
 pub use root::RootKind;

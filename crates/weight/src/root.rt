@@ -9,7 +9,6 @@ ghost use Rattle.weight.specs.Layers.{root-worth, root-place};
 use crate::Kind;
 use crate::front::Front;
 use crate::front::FrontClone;
-use crate::show_front;
 use refusal::Refusal;
 use std::cmp::Ordering;
 
@@ -57,10 +56,7 @@ pub impl<K: Kind> Kind for Root<K> as RootKind {
     ghost sized = { λ x. ap suc (K·Kind .sized (x .0 .rest)) };
 
     fn nothing() -> Root<K> {
-        Root(Front {
-            place: 0,
-            rest: K::nothing(),
-        })
+        Root(Front::nothing())
     }
 
     fn sum(&self, other: &Root<K>) -> Root<K> {
@@ -76,10 +72,10 @@ pub impl<K: Kind> Kind for Root<K> as RootKind {
     }
 
     fn entry(&self) -> bool {
-        -1 <= self.0.place && self.0.place <= 0 && self.0.rest.entry()
+        self.0.entry(-1, 0)
     }
 
     fn show(&self, space: &mut [u8]) -> Result<usize, Refusal> {
-        show_front(self.0.place, &self.0.rest, space)
+        self.0.show(space)
     }
 }

@@ -2,16 +2,17 @@
 ghost use mathlib.Core.Path.{_≡_, refl};
 ghost use mathlib.Core.List.{[], _∷_};
 ghost use lib.Dec.{lit≤};
-ghost use lib.IntN.{pos, negsuc};
+ghost use lib.IntN.{pos, negℤ};
 ghost use lib.Signed.{leZ-yes};
-ghost use Rattle.weight.specs.Scores.{score-worth};
+ghost use Rattle.weight.specs.Range.{limit};
+ghost use Rattle.weight.specs.Numbers.{score-worth};
 use crate::Kind;
 use crate::Opens;
 use crate::show_place;
 use refusal::Refusal;
 use std::cmp::Ordering;
 
-#[derive(Clone, Copy, PartialEq, Eq, Debug)]
+#[derive(Clone, Copy)]
 pub struct Score {
     value: i64,
 }
@@ -29,7 +30,7 @@ pub impl Kind for Score as ScoreKind {
 
     ghost some = { lit≤ tt };
 
-    ghost ranges = { record { least = negsuc 999999; greatest = pos 1000000 } ∷ [] };
+    ghost ranges = { record { least = negℤ (pos limit); greatest = pos limit } ∷ [] };
 
     ghost ranged = { (refl, (leZ-yes tt, leZ-yes tt, leZ-yes tt, leZ-yes tt, tt)) };
 
