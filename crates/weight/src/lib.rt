@@ -5,7 +5,7 @@ ghost use Prim.Native.Nat.{ℕ, _≤_};
 ghost use lib.ListN.{length};
 ghost use Rattle.weight.specs.Worth.{Worth, zeros, Sum-is, Difference-is, at-most, order, Worth-laws, Order-laws, Bound-laws};
 ghost use Rattle.weight.specs.Range.{Range, Ranged, entry-in, Entry-within};
-ghost use Rattle.weight.specs.Text.{Shown};
+ghost use Rattle.weight.specs.Text.{Shown, Text-laws};
 use refusal::Refusal;
 use std::cmp::Ordering;
 
@@ -82,10 +82,11 @@ pub trait Kind {
 // A kind that a sheet can be opened with.
 pub trait Opens: Kind {}
 
-// What holds of all worths.
+// What holds of all worths and their texts.
 pub fn laws()
     ensures group { λ _. ⌜ Worth-laws ⌝ }
     ensures order { λ _. ⌜ Order-laws ⌝ }
     ensures bounds { λ _. ⌜ Bound-laws ⌝ }
     ensures entries { λ _. ⌜ Entry-within ⌝ }
+    ensures texts { λ _. ⌜ Text-laws ⌝ }
 {}
