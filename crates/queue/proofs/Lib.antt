@@ -1,3 +1,6 @@
 pub mod Heaps
 pub mod Counting
+pub mod Shuffling
 pub mod Ends
+mod Levels
+mod Runs

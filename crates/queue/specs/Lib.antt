@@ -1,3 +1,4 @@
 pub mod Heap
 pub mod Counts
 pub mod Calls
+pub mod Runs

@@ -6,6 +6,7 @@
 ghost use Prim.Native.Nat.{ℕ, _+_, _-_, _*_, _<_, _≤_};
 ghost use Rattle.queue.specs.Calls.{Pushed, Popped, Dropped, Push-refused, Pop-refused, Drop-refused};
 ghost use Rattle.queue.specs.Heap.{Ordered, Greatest, Least, Rising, Sinking, Highest, Lowest};
+ghost use Rattle.queue.specs.Runs.{Came-out, Emptied, Run-refused};
 ghost use Rattle.std.specs.Results.{Cases as ByOk};
 ghost use Rattle.std.specs.Slices.{Ranks, Shuffled};
 ghost use lib.ListN.{length, getD, take};
@@ -74,6 +75,43 @@ pub fn push_drop_least<T: Ranked + Copy>(slots: &mut [T], len: usize, x: T) -> R
         return Err(Refused::BeyondSlots);
     }
     Ok(keep_higher(&mut slots[0..len], x))
+}
+
+// Pushes the given elements, in the order in which they stand, into an empty list, and pops them all into `out`:
+// whatever that order was, they come out falling.
+pub fn rank<T: Ranked + Copy>(given: &[T], slots: &mut [T], out: &mut [T]) -> Result<(), Refused>
+    ensures { λ r. ⌜ ByOk r (λ _. Came-out above (now (given .entry)) (now (slots .entry)) (now (out .entry)) (now (slots .exit)) (now (out .exit))) (λ e. Run-refused (length (now (given .entry))) (length (now (slots .entry))) (length (now (out .entry))) e × (now (slots .exit) ≡ now (slots .entry)) × (now (out .exit) ≡ now (out .entry))) ⌝ }
+{
+    let n = given.len();
+    if slots.len() < n || out.len() < n {
+        return Err(Refused::Full);
+    }
+    push_all(&mut slots[0..n], given)?;
+    pop_all(&mut slots[0..n], out)?;
+    Ok(())
+}
+
+// Pushes the given elements into an empty list, which they fill.
+fn push_all<T: Ranked + Copy>(heap: &mut [T], given: &[T]) -> Result<(), Refused>
+    requires { ⌜ length (now heap) ≡ length (now given) ⌝ }
+    ensures { λ r. ⌜ ByOk r (λ _. Shuffled (now (given .entry)) (now (heap .exit)) × Ordered above (now (heap .exit))) (λ _. ⊥) ⌝ }
+{
+    for (i, x) in given.iter().enumerate() {
+        push(heap, i, *x)?;
+    }
+    Ok(())
+}
+
+// Pops every element of a full list into `out`.
+fn pop_all<T: Ranked + Copy>(heap: &mut [T], out: &mut [T]) -> Result<(), Refused>
+    requires { ⌜ length (now heap) ≤ length (now out) ⌝ }
+    ensures { λ r. ⌜ ByOk r (λ _. Emptied above (now (heap .entry)) (now (out .entry)) (now (heap .exit)) (now (out .exit))) (λ _. ⊥) ⌝ }
+{
+    let n = heap.len();
+    for i in 0..n {
+        out[i] = pop(heap, n - i)?;
+    }
+    Ok(())
 }
 
 // Whether the element at i outranks the one at j.
