@@ -1,5 +1,5 @@
 -- Shuffled lists count alike, by every test.
-use mathlib.Core.Path.{_≡_, sym, _∙_}
+use mathlib.Core.Path.{sym, _∙_}
 use mathlib.Core.Bool.{cond}
 use mathlib.Core.List.{List, _∷_}
 use Rattle.std.specs.Slices.{Shuffled}

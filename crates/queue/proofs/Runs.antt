@@ -1,13 +1,12 @@
 -- A run of pushes and then of pops: what each turn keeps.
-use mathlib.Core.Path.{_≡_, refl, sym, ap, subst, _∙_}
+use mathlib.Core.Path.{_≡_, sym, ap, subst, _∙_}
 use mathlib.Core.Logic.{⊎-elim}
-use mathlib.Core.Bool.{Bool, true, false}
+use mathlib.Core.Bool.{Bool, false}
 use mathlib.Core.List.{List, [], _∷_, _++_}
 use Prim.Native.Nat.{ℕ, _+_, _-_, _≤_, _<_}
 use native.Mathlib.Omega.{arith}
 use lib.ListN.{length, getD, set, take, drop, length-set}
 use Rattle.std.specs.Slices.{Ranks, Shuffled}
-use Rattle.std.specs.shelf.Lists.{All}
 use Rattle.std.proofs.shelf.Lists.{append-assoc, append-nil, take-all, take-at, drop-at, getD-take, getD-set-same, getD-set-other, length-take-le, take-more, take-more-set, take-append-drop}
 use Rattle.std.proofs.shelf.Sorted.{all-shuffled, length-shuffled, shuffled-refl, shuffled-sym, shuffled-trans, shuffled-cons, shuffled-to-front}
 use Rattle.std.proofs.shelf.Tests.{cases-eq}

@@ -1,12 +1,11 @@
 -- Shuffles of lists with a part before or behind.
-use mathlib.Core.Path.{_≡_, refl, sym, ap, subst, _∙_}
+use mathlib.Core.Path.{refl, sym, subst}
 use mathlib.Core.List.{List, [], _∷_, _++_}
-use Prim.Native.Nat.{ℕ, _+_, _≤_, _<_}
+use Prim.Native.Nat.{_+_}
 use native.Mathlib.Omega.{arith}
-use lib.ListN.{length, getD, take, drop}
 use Rattle.std.specs.Slices.{Shuffled}
-use Rattle.std.proofs.shelf.Lists.{append-nil, append-assoc, take-append-drop}
-use Rattle.std.proofs.shelf.Sorted.{shuffled-refl, shuffled-sym, shuffled-trans, shuffled-cons, shuffled-swap}
+use Rattle.std.proofs.shelf.Lists.{append-nil}
+use Rattle.std.proofs.shelf.Sorted.{shuffled-refl, shuffled-trans, shuffled-cons, shuffled-swap}
 
 module _ {X : Type 0} where
   pub shuffled-behind : (ws xs ys : List X) → Shuffled xs ys → Shuffled (ws ++ xs) (ws ++ ys)

@@ -49,8 +49,7 @@ pub fn push<T: Ranked + Copy>(slots: &mut [T], len: usize, x: T) -> Result<usize
     if slots.len() == len {
         return Err(Refused::Full);
     }
-    slots[len] = x;
-    sift_up(&mut slots[0..len + 1], len);
+    insert(slots, len, x);
     Ok(len + 1)
 }
 
@@ -71,10 +70,10 @@ pub fn pop<T: Ranked + Copy>(slots: &mut [T], len: usize) -> Result<T, Refused>
 pub fn push_drop_least<T: Ranked + Copy>(slots: &mut [T], len: usize, x: T) -> Result<T, Refused>
     ensures { λ r. ⌜ ByOk r (λ y. Dropped above (now (slots .entry)) len x (now (slots .exit)) y) (λ e. Drop-refused (length (now (slots .entry))) len e × (now (slots .exit) ≡ now (slots .entry))) ⌝ }
 {
-    if slots.len() < len {
-        return Err(Refused::BeyondSlots);
+    if len <= slots.len() {
+        return Ok(keep_higher(&mut slots[0..len], x));
     }
-    Ok(keep_higher(&mut slots[0..len], x))
+    Err(Refused::BeyondSlots)
 }
 
 // Pushes the given elements, in the order in which they stand, into an empty list, and pops them all into `out`:
@@ -120,6 +119,15 @@ fn outranks_at<T: Ranked>(heap: &[T], i: usize, j: usize) -> bool
     ensures { λ r. ⌜ ((d : T) → above (getD (now (heap .entry)) i d) (getD (now (heap .entry)) j d) ≡ r) ⌝ }
 {
     heap[i].outranks(&heap[j])
+}
+
+// Puts x into the first slot behind the list, and moves it up to its place in heap order.
+fn insert<T: Ranked + Copy>(slots: &mut [T], len: usize, x: T)
+    requires { ⌜ len < length (now slots) ⌝ }
+    ensures { λ _. ⌜ Pushed above (now (slots .entry)) len x (now (slots .exit)) (len + 1) ⌝ }
+{
+    slots[len] = x;
+    sift_up(&mut slots[0..len + 1], len);
 }
 
 // Moves the element at i up, while it outranks its parent.
