@@ -35,3 +35,5 @@ pub fn heaviest_first(given: [Candidate; 8]) -> [Candidate; 8]
     }
 }
 
+#[cfg(test)]
+mod tests;
