@@ -1,6 +1,5 @@
 // A caller of the waiting list, whose elements are records with an array in them, and long runs of the list beside a
 // plain sorted one.
-ghost use Prim.Native.Nat.{ℕ, _≤_, _<_};
 ghost use Rattle.queue_test.specs.Weights.{Heaviest-first};
 ghost use Rattle.std.specs.Slices.{Shuffled};
 ghost use lib.Dec.{ltb};

@@ -18,7 +18,7 @@ struct Run {
     steps: u32,
     pushes: u32,
     drops: u32,
-    // weights are below this: where it is small, many are equal
+    // weights are below this, or of any size where it is 0; where it is small, many are equal
     spread: u32,
 }
 
