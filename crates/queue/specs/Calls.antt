@@ -3,6 +3,7 @@
 use mathlib.Core.Path.{_≡_}
 use mathlib.Core.Bool.{Bool}
 use mathlib.Core.List.{List, _∷_}
+use mathlib.Core.Logic.{_⊎_}
 use Prim.Native.Nat.{ℕ, _+_, _-_, _≤_, _<_}
 use lib.ListN.{length, getD, take, drop}
 use Rattle.std.specs.Slices.{Shuffled}
@@ -11,23 +12,17 @@ use Rattle.queue.specs.declared.Refused.{Refused}
 use Rattle.queue.specs.Heap.{Ordered, Greatest, Least}
 use Rattle.queue.specs.Counts.{Counts-with, Counts-for}
 
--- when a list of len elements in so many slots refuses to take one more
+-- why a list of len elements in so many slots refuses to take one more
 abbrev pub Push-refused : ℕ → ℕ → Refused → Type 0
-Push-refused slots len Full = len ≡ slots
-Push-refused slots len Empty = ⊥
-Push-refused slots len BeyondSlots = slots < len
+Push-refused slots len why = ((len ≡ slots) × (why ≡ Full)) ⊎ ((slots < len) × (why ≡ BeyondSlots))
 
--- when it refuses to hand one out
+-- why it refuses to hand one out
 abbrev pub Pop-refused : ℕ → ℕ → Refused → Type 0
-Pop-refused slots len Full = ⊥
-Pop-refused slots len Empty = len ≡ 0
-Pop-refused slots len BeyondSlots = slots < len
+Pop-refused slots len why = ((len ≡ 0) × (why ≡ Empty)) ⊎ ((slots < len) × (why ≡ BeyondSlots))
 
--- when it refuses to take one and drop the least
+-- why it refuses to take one and drop the least
 abbrev pub Drop-refused : ℕ → ℕ → Refused → Type 0
-Drop-refused slots len Full = ⊥
-Drop-refused slots len Empty = ⊥
-Drop-refused slots len BeyondSlots = slots < len
+Drop-refused slots len why = (slots < len) × (why ≡ BeyondSlots)
 
 module _ {X : Type 0} (above : X → X → Bool) where
   -- x came to the list, which has n elements now

@@ -6,15 +6,13 @@ use mathlib.Core.List.{List}
 use Prim.Native.Nat.{ℕ, _≤_, _<_}
 use lib.ListN.{length, getD, take, drop}
 use Rattle.std.specs.Slices.{Shuffled}
-use Rattle.queue.specs.declared.Refused.the-variants.{Full, Empty, BeyondSlots}
+use Rattle.queue.specs.declared.Refused.the-variants.{Full}
 use Rattle.queue.specs.declared.Refused.{Refused}
 use Rattle.queue.specs.Heap.{Ordered}
 
--- when so many given elements are refused, with so many slots and places to come out to
+-- why so many given elements are refused, with so many slots, and places to come out to
 abbrev pub Run-refused : ℕ → ℕ → ℕ → Refused → Type 0
-Run-refused given slots places Full = (slots < given) ⊎ (places < given)
-Run-refused given slots places Empty = ⊥
-Run-refused given slots places BeyondSlots = ⊥
+Run-refused given slots places why = ((slots < given) ⊎ (places < given)) × (why ≡ Full)
 
 module _ {X : Type 0} (above : X → X → Bool) where
   -- no element outranks one that stands before it
