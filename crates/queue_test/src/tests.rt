@@ -1,6 +1,5 @@
 // Long random runs of pushes, pops and drops, each answer compared with a plain list that is kept sorted.
 use super::*;
-use queue::Refused;
 use std::test::*;
 
 const ROOM: usize = 64;
