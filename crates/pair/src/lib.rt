@@ -84,6 +84,7 @@ mod tests {
     use super::*;
     use refusal::RefusalDebug;
     use refusal::RefusalPartialEq;
+    use std::mem::size_of;
     use std::test::*;
     use weight::Cost;
     use weight::CostKind;
@@ -146,5 +147,13 @@ mod tests {
         let least = Score::new(i64::MIN);
         check(most.sum(&most).compare(&most).is_eq())?;
         check(least.difference(&most).compare(&least).is_eq())
+    }
+
+    #[test]
+    fn weights_are_small() -> Result<(), Fail> {
+        check_eq(size_of::<Score>(), 8)?;
+        check_eq(size_of::<Cost>(), 8)?;
+        check_eq(size_of::<Mark<Score>>(), 16)?;
+        check_eq(size_of::<Root<Mark<Pair>>>(), 32)
     }
 }

@@ -7,11 +7,14 @@ use native.Mathlib.Omega.{arith}
 use lib.ListN.{length, getD, take, drop, set, length-append, length-drop}
 use lib.Seq.{length-take-le}
 use lib.IntN.{ℤ}
+use mir.Syntax.{w64}
+use mir.Val.{SFits, toZ, ofZ}
 use borrow.Rule.Slice.PartMut.{putMid}
 use Rattle.refusal.specs.declared.Refusal.{Refusal}
 use Rattle.std.specs.Written.{signed}
 use Rattle.std.specs.declared.result.Result.{Result}
 use Rattle.std.proofs.shelf.Lists.{drop-at, drop-drop, drop-all, drop-more, take-rest, set-at, take-append-drop}
+use Rattle.std.proofs.shelf.Signed.{toZ-ofZ}
 use Rattle.std.proofs.shelf.Tests.{cases-lt}
 use Rattle.text.specs.Space.{written, Placed}
 use Rattle.weight.specs.Worth.{Worth}
@@ -32,12 +35,23 @@ placed-shown x before after r p = by (cases-lt (length before) (length (signed x
         rw (e .0, z) (refl, h, placed-first (signed x) before after r p h)
 
 -- ---- a place, a comma, and the places behind it
-pub text-front : (x : ℤ) (a : Worth) → 1 ≤ length a → text (x ∷ a) ≡ signed x ++ (44 ∷ text a)
+text-front : (x : ℤ) (a : Worth) → 1 ≤ length a → text (x ∷ a) ≡ signed x ++ (44 ∷ text a)
 text-front x [] h = absurd (omega arith)
 text-front x (y ∷ ys) h = refl
 
-pub text-length : (x : ℤ) (a : Worth) → 1 ≤ length a → length (text (x ∷ a)) ≡ length (signed x) + 1 + length (text a)
-text-length x a h = rw (text-front x a h, length-append) (omega arith)
+-- with w the width of x as a call was told it, and p the places of the kind
+pub record Lengths (x : ℤ) (a : Worth) (w : ℕ) : Type 0 where
+  pub same : toZ w64 (ofZ w64 x) ≡ x
+  pub width : w ≡ length (signed x)
+  pub whole : length (text (x ∷ a)) ≡ w + 1 + length (text a)
+  pub shape : text (x ∷ a) ≡ signed x ++ (44 ∷ text a)
+
+pub lengths : (x : ℤ) (a : Worth) (w p : ℕ) → SFits w64 x → w ≡ length (signed (toZ w64 (ofZ w64 x))) → 1 ≤ p → length a ≡ p → Lengths x a w
+lengths x a w p f e some sized =
+    let same = toZ-ofZ w64 x f in
+    let width : w ≡ length (signed x) = e ∙ ap (λ y. length (signed y)) same in
+    let shape : text (x ∷ a) ≡ signed x ++ (44 ∷ text a) = text-front x a (omega arith) in
+    record { same = same; width = width; whole = rw (shape, length-append) (omega arith); shape = shape }
 
 -- the space with m in place of its part from k on
 part-put : (s : List ℕ) (k : ℕ) (m : List ℕ) → putMid k (length s - k) s m ≡ take k s ++ m
