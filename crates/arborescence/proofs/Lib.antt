@@ -1,0 +1,9 @@
+pub mod Totals
+pub mod Sums
+pub mod Merged
+pub mod Above
+pub mod Below
+pub mod Whole
+pub mod Bounded
+pub mod Rooted
+pub mod Carried

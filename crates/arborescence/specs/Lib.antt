@@ -1,0 +1,4 @@
+pub mod Sum
+pub mod Search
+pub mod Bounds
+pub mod Heads

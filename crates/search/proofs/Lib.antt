@@ -1,0 +1,16 @@
+mod Sets
+mod Counts
+mod Held
+mod Scan
+mod Records
+mod Families
+mod Stages
+mod Rings
+mod Raised
+mod Joining
+mod Limits
+mod Steps
+mod Openings
+mod Heads
+mod Begins
+mod Finds
