@@ -14,3 +14,4 @@ mod Openings
 mod Heads
 mod Begins
 mod Finds
+mod Barring

@@ -5,8 +5,10 @@ ghost use Rattle.search.specs.Family.{entry};
 ghost use Rattle.search.specs.Ring.{Laid, Periodic, Ring};
 ghost use Rattle.search.specs.State.{view, group-at, family, head-by, Walked, Found};
 ghost use Rattle.tree.specs.Chains.{Word};
+ghost use Rattle.weight.specs.Layers.{root-place};
 ghost use lib.ListN.{length, set as put};
 ghost use mathlib.Core.Bool.{true};
+ghost use mathlib.Core.List.{_∷_};
 ghost use mathlib.Core.Path.{_≡_};
 use crate::bits::either;
 use crate::bits::holds;
@@ -22,6 +24,20 @@ pub struct Node<K> {
     pub(crate) from: usize,
     pub(crate) to: usize,
     pub(crate) value: Root<K>,
+}
+
+impl<K: Kind> Node<K> {
+    // A record to fill the working space with.
+    pub fn new(weight: K) -> Node<K>
+        ensures { λ r. ⌜ view (K·Kind .worth) r ≡ record { members = 0; from = 0; to = 0; value = root-place 0 ∷ K·Kind .worth weight } ⌝ }
+    {
+        Node {
+            members: 0,
+            from: 0,
+            to: 0,
+            value: Root::new(0, weight),
+        }
+    }
 }
 
 // The largest set that the word is in.

@@ -16,12 +16,14 @@ use weight::Kind;
 use weight::Root;
 
 mod arcs;
+mod aside;
 mod bits;
 mod family;
 mod merging;
 mod opening;
 mod whole;
 
+pub use aside::best_tree_barring;
 pub use family::Node;
 pub use family::NodeClone;
 
