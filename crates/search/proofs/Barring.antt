@@ -18,7 +18,7 @@ use Rattle.weight.specs.Range.{Range}
 use Rattle.weight.specs.Worth.{Worth}
 use Rattle.tree.specs.Chains.{Word, head-of}
 use Rattle.arborescence.specs.Heads.{Tree-over}
-use Rattle.search.specs.Bits.{in-set}
+use Rattle.word_set.specs.Bits.{in-set}
 use Rattle.search.specs.Arcs.{allowed, Entries}
 use Rattle.search.specs.Answer.{Searched, barring}
 

@@ -13,7 +13,7 @@ use Rattle.tree.specs.Chains.{Word}
 use Rattle.arborescence.specs.Search.{Tree, Into}
 use Rattle.arborescence.proofs.Above as above
 use Rattle.search.specs.declared.family.Node.{Node}
-use Rattle.search.specs.Bits.{in-set}
+use Rattle.word_set.specs.Bits.{in-set}
 use Rattle.search.specs.Arcs.{Best-head}
 use Rattle.search.proofs.Scan.{free-arc, arc-free}
 use Rattle.search.specs.Family.{Group, Begun}

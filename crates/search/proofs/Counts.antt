@@ -10,7 +10,7 @@ use Rattle.tree.specs.Chains.{Word}
 use Rattle.arborescence.specs.Sum.{count-if}
 use Rattle.arborescence.proofs.Sums.{count-out}
 use Rattle.arborescence.proofs.Totals.{but}
-use Rattle.search.specs.Bits.{in-set}
+use Rattle.word_set.specs.Bits.{in-set}
 
 count-le : (p q : ℕ → Bool) (n : ℕ) → ((w : ℕ) → Word n w → q w ≡ true → p w ≡ true) → count-if q (λ _. 1) n ≤ count-if p (λ _. 1) n
 count-le p q zero h = omega arith

@@ -16,7 +16,7 @@ use Rattle.arborescence.proofs.Merged.{leader-from, merged-sets}
 use Rattle.arborescence.proofs.Whole.{good-start, good-merge}
 use Rattle.arborescence.proofs.Carried.{kept}
 use Rattle.arborescence.proofs.Bounded.{sized-merge}
-use Rattle.search.specs.Bits.{in-set}
+use Rattle.word_set.specs.Bits.{in-set}
 use Rattle.search.specs.Family.{Group, entry, rep-of, from-of, best-of, add-of, size-of, Begun, Joined, Valid, Entered}
 
 module _ (n : ℕ) (stands : ℕ → ℕ → Bool) (worth : ℕ → ℕ → Worth) (z : Worth) (nought : (h d : ℕ) → Word n d → h ≤ n → plus (worth h d) z ≡ worth h d) where

@@ -10,7 +10,7 @@ use Rattle.std.proofs.shelf.Lists.{getD-set-same, getD-set-other}
 use Rattle.std.proofs.shelf.Tests.{cases-eq, cases-lt}
 use Rattle.weight.specs.Worth.{Worth, plus}
 use Rattle.tree.specs.Chains.{Word, head-of}
-use Rattle.search.specs.Bits.{in-set}
+use Rattle.word_set.specs.Bits.{in-set}
 use Rattle.search.specs.Family.{Group, rep-of, from-of, Valid}
 use Rattle.search.specs.State.{family}
 use Rattle.search.specs.Opening.{Opened, Meets, Lined}

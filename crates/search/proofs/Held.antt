@@ -10,9 +10,9 @@ use lib.ListN.{length, getD}
 use Rattle.std.proofs.shelf.Tests.{cases-bool, ne-eqb, leb-true}
 use Rattle.std.proofs.shelf.Ways.{tells}
 use Rattle.tree.specs.Chains.{head-of}
-use Rattle.search.specs.Bits.{in-set}
+use Rattle.word_set.specs.Bits.{in-set}
 use Rattle.search.specs.Arcs.{allowed}
-use Rattle.search.proofs.Sets.{in-set-empty}
+use Rattle.word_set.proofs.Sets.{in-set-empty}
 
 pub head-at : (heads : List ℕ) (w : ℕ) → 1 ≤ w → head-of heads w ≡ getD heads (w - 1) 0
 head-at heads zero h = absurd (omega arith)

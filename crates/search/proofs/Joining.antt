@@ -23,7 +23,7 @@ use Rattle.arborescence.proofs.Above as above
 use Rattle.weight.specs.declared.root.Root.{Root}
 use Rattle.search.specs.declared.arcs.Entering.{Entering}
 use Rattle.search.specs.declared.family.Node.{Node}
-use Rattle.search.specs.Bits.{in-set}
+use Rattle.word_set.specs.Bits.{in-set}
 use Rattle.weight.specs.Worth.{zeros}
 use Rattle.weight.specs.Layers.{root-worth}
 use Rattle.search.specs.Arcs.{Best, Set-arc, with-potential}

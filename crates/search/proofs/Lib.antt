@@ -1,4 +1,3 @@
-mod Sets
 mod Counts
 mod Held
 mod Scan

@@ -18,7 +18,7 @@ use Rattle.arborescence.proofs.Totals.{but}
 use Rattle.arborescence.proofs.Sums.{count-out, count-split}
 use Rattle.arborescence.proofs.Bounded.{sized-merge}
 use Rattle.arborescence.proofs.Merged as merges
-use Rattle.search.specs.Bits.{in-set}
+use Rattle.word_set.specs.Bits.{in-set}
 use Rattle.weight.specs.Worth.{zeros}
 use Rattle.weight.specs.Layers.{root-worth}
 use Rattle.search.specs.Arcs.{Sound}

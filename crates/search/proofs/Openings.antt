@@ -15,7 +15,7 @@ use Rattle.arborescence.proofs.Sums.{at-most-eq, sum-le, sum-same}
 use Rattle.arborescence.proofs.Merged as merges
 use Rattle.arborescence.proofs.Above as above
 use Rattle.arborescence.proofs.Below.{unmerge, unmerge-at, unmerge-in, unmerge-out, bottom-from}
-use Rattle.search.specs.Bits.{in-set}
+use Rattle.word_set.specs.Bits.{in-set}
 use Rattle.search.specs.Family.{Group, entry, rep-of, from-of, best-of, add-of, Joined, Valid, Entered}
 use Rattle.search.specs.Opening.{Shut, Entered-by, Opened, Best-of-all}
 use Rattle.search.specs.Ring.{Laid}

@@ -13,7 +13,7 @@ use Rattle.tree.specs.Chains.{Word, up, Reaches}
 use Rattle.tree.proofs.Chains.{up-plus}
 use Rattle.search.proofs.Counts.{or-right}
 use Rattle.search.specs.declared.family.Node.{Node}
-use Rattle.search.specs.Bits.{in-set}
+use Rattle.word_set.specs.Bits.{in-set}
 use Rattle.search.specs.Family.{Group, entry, rep-of, from-of, best-of}
 use Rattle.search.specs.State.{view, blank, group-at, family, head-by}
 

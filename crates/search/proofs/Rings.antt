@@ -10,7 +10,7 @@ use Rattle.weight.specs.Worth.{Worth, plus}
 use Rattle.tree.specs.Chains.{Word, up}
 use Rattle.arborescence.specs.Search.{Sets, Leader}
 use Rattle.tree.proofs.Chains.{up-plus}
-use Rattle.search.specs.Bits.{in-set}
+use Rattle.word_set.specs.Bits.{in-set}
 use Rattle.search.specs.Family.{Group, entry, rep-of, from-of, best-of, next-of}
 use Rattle.search.specs.Ring.{Laid, Periodic, Going, Ring}
 use Rattle.search.proofs.Counts.{missing, missing-less}

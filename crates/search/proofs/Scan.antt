@@ -20,7 +20,7 @@ use Rattle.weight.proofs.Worths.{at-most-refl, at-most-trans, at-most-total, at
 use Rattle.tree.specs.Chains.{Word}
 use Rattle.arborescence.specs.Heads.{rooted}
 use Rattle.search.specs.declared.arcs.Entering.{Entering}
-use Rattle.search.specs.Bits.{in-set}
+use Rattle.word_set.specs.Bits.{in-set}
 use Rattle.search.specs.Arcs.{allowed, Best-head, better-head, Best, better-of, Head-arc, Set-arc, with-potential}
 
 pub element : {K : Type 0} (f : K → Worth) (xs : List K) (i : ℕ) (x : K) → i < length xs → x ≡ getD xs i x → f x ≡ getD (map f xs) i []

@@ -10,7 +10,7 @@ use Rattle.weight.specs.Worth.{Worth, plus}
 use Rattle.tree.specs.Chains.{Word, up}
 use Rattle.arborescence.specs.Search.{Sets, Leader, Union}
 use Rattle.arborescence.proofs.Merged as merges
-use Rattle.search.specs.Bits.{in-set}
+use Rattle.word_set.specs.Bits.{in-set}
 use Rattle.search.specs.Family.{Group, entry, rep-of, from-of, best-of, Begun, Joined, Valid}
 use Rattle.search.specs.Ring.{Laid}
 use Rattle.search.proofs.Records.{entry-to}

@@ -15,7 +15,7 @@ use Rattle.refusal.specs.declared.Refusal.the-variants.{WordCount, ShortMemory,
 use Rattle.weight.specs.Range.{Range}
 use Rattle.weight.specs.Worth.{Worth, Outweighs}
 use Rattle.arborescence.specs.Heads.{Tree-over, worth-from}
-use Rattle.search.specs.Bits.{in-set}
+use Rattle.word_set.specs.Bits.{in-set}
 use Rattle.search.specs.Arcs.{Entries}
 use Rattle.search.specs.State.{Room}
 

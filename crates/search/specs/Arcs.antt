@@ -15,7 +15,7 @@ use Rattle.weight.specs.declared.root.Root.{Root}
 use Rattle.tree.specs.Chains.{Word, head-of}
 use Rattle.arborescence.specs.Heads.{rooted}
 use Rattle.search.specs.declared.arcs.Entering.{Entering}
-use Rattle.search.specs.Bits.{in-set}
+use Rattle.word_set.specs.Bits.{in-set}
 
 -- whether the arc from h to d stands, and is that of d's held head where d is held
 abbrev pub allowed : List ℕ → List ℕ → ℕ → ℕ → Bool

@@ -9,7 +9,7 @@ use Rattle.weight.specs.Worth.{Worth, plus}
 use Rattle.tree.specs.Chains.{Word, up}
 use Rattle.arborescence.specs.Search.{Leader, Into, Covers, Union, merged, raised}
 use Rattle.arborescence.specs.Bounds.{merged-size}
-use Rattle.search.specs.Bits.{in-set}
+use Rattle.word_set.specs.Bits.{in-set}
 
 -- a set of words, with the arc by which it is best entered: that arc's word leads the set
 pub record Group : Type 0 where

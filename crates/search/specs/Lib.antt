@@ -1,4 +1,3 @@
-pub mod Bits
 pub mod Arcs
 pub mod Family
 pub mod State

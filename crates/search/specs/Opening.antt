@@ -7,7 +7,7 @@ use Prim.Native.Nat.{ℕ, suc, _≤_, _<_}
 use Rattle.weight.specs.Worth.{Worth, AtMost}
 use Rattle.tree.specs.Chains.{Word, Reaches}
 use Rattle.arborescence.specs.Search.{Leader, Built, Tree, tree-worth}
-use Rattle.search.specs.Bits.{in-set}
+use Rattle.word_set.specs.Bits.{in-set}
 use Rattle.weight.specs.Worth.{zeros}
 use Rattle.search.specs.Arcs.{Sound}
 use Rattle.search.specs.Family.{Group, rep-of, from-of, add-of, Valid}

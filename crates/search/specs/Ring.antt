@@ -7,7 +7,7 @@ use Prim.Native.Nat.{ℕ, suc, _≤_}
 use lib.Dec.{eqb}
 use Rattle.tree.specs.Chains.{Word, up}
 use Rattle.arborescence.specs.Search.{Sets, Leader}
-use Rattle.search.specs.Bits.{in-set}
+use Rattle.word_set.specs.Bits.{in-set}
 use Rattle.search.specs.Family.{Group, entry, rep-of, from-of, next-of}
 
 pub record Laid (n : ℕ) (base : ℕ → Group) (ms : List Group) : Type 0 where

@@ -13,7 +13,7 @@ use lib.Dec.{eqb}
 use Rattle.tree.specs.Chains.{Word, up, Reaches}
 use Rattle.arborescence.specs.Search.{Tree, Into, Covers}
 use Rattle.search.specs.declared.family.Node.{Node}
-use Rattle.search.specs.Bits.{in-set}
+use Rattle.word_set.specs.Bits.{in-set}
 use Rattle.weight.specs.declared.root.Root.{Root}
 use Rattle.weight.specs.Worth.{zeros}
 use Rattle.weight.specs.Layers.{root-worth}

@@ -2,7 +2,7 @@
 ghost use Prim.Native.Nat.{ℕ, _+_, _*_, _^_, _<_, _≤_};
 ghost use Rattle.arborescence.specs.Heads.{rooted};
 ghost use Rattle.search.specs.Arcs.{allowed, weight-at, arc-worth, potential, Best-head, better-head, Best, better-of, Head-arc, Set-arc, with-potential, Entries-into, All-entries};
-ghost use Rattle.search.specs.Bits.{in-set};
+ghost use Rattle.word_set.specs.Bits.{in-set};
 ghost use Rattle.tree.specs.Chains.{Word};
 ghost use Rattle.weight.specs.Layers.{root-worth};
 ghost use Rattle.weight.specs.Range.{entry-in};
@@ -12,16 +12,16 @@ ghost use Rattle.std.specs.Options.{Cases};
 ghost use lib.ListN.{length};
 ghost use mathlib.Core.Bool.{true, false, _&&_};
 ghost use mathlib.Core.Path.{_≡_};
-use crate::bits::both;
 use crate::bits::first;
-use crate::bits::holds;
 use crate::bits::line;
 use crate::bits::only;
-use crate::bits::without;
 use weight::Kind;
 use weight::Root;
 use weight::RootClone;
 use weight::RootKind;
+use word_set::both;
+use word_set::holds;
+use word_set::without;
 
 // An arc into a set, with its weight over the root layer and the potential of its word.
 #[derive(Clone, Copy)]

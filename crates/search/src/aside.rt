@@ -6,11 +6,11 @@ ghost use Rattle.search.specs.State.{Room};
 ghost use lib.ListN.{length, set as put};
 ghost use mathlib.Core.Path.{_≡_};
 use crate::best_tree;
-use crate::bits::without;
 use crate::family::Node;
 use refusal::Refusal;
 use weight::Kind;
 use weight::Root;
+use word_set::without;
 
 // A word's set of arcs as it was, to be restored when the search leaves.
 struct Aside<'a> {

@@ -1,38 +1,9 @@
-// Sets of words as the bits of a number: bit w is up where word w is in the set. Bit 0 is the root's.
+// Sets of words, where the words are known to be on a line.
 ghost use Prim.Native.Nat.{ℕ, _<_};
-ghost use Rattle.search.specs.Bits.{in-set};
+ghost use Rattle.word_set.specs.Bits.{in-set};
 ghost use lib.Dec.{eqb, leb};
-ghost use mathlib.Core.Bool.{true, not, _||_, _&&_};
+ghost use mathlib.Core.Bool.{true};
 ghost use mathlib.Core.Path.{_≡_};
-
-// Whether the word is in the set.
-pub(crate) fn holds(set: u64, word: usize) -> bool
-    requires { ⌜ word < 64 ⌝ }
-    ensures { λ r. ⌜ r ≡ in-set set word ⌝ }
-{
-    (set >> word) & 1 == 1
-}
-
-// The words of either set.
-pub(crate) fn either(a: u64, b: u64) -> u64
-    ensures { λ r. ⌜ ((v : ℕ) → in-set r v ≡ (in-set a v || in-set b v)) ⌝ }
-{
-    a | b
-}
-
-// The words of both sets.
-pub(crate) fn both(a: u64, b: u64) -> u64
-    ensures { λ r. ⌜ ((v : ℕ) → in-set r v ≡ (in-set a v && in-set b v)) ⌝ }
-{
-    a & b
-}
-
-// The words of the first set that are not in the second.
-pub(crate) fn without(a: u64, b: u64) -> u64
-    ensures { λ r. ⌜ ((v : ℕ) → in-set r v ≡ (in-set a v && not (in-set b v))) ⌝ }
-{
-    a ^ (a & b)
-}
 
 // The set of one word.
 pub(crate) fn only(word: usize) -> u64

@@ -1,6 +1,6 @@
 // The sets of words that a search has made, and the walk along their heads.
 ghost use Prim.Native.Nat.{ℕ, _+_, _<_, _≤_};
-ghost use Rattle.search.specs.Bits.{in-set};
+ghost use Rattle.word_set.specs.Bits.{in-set};
 ghost use Rattle.search.specs.Family.{entry};
 ghost use Rattle.search.specs.Ring.{Laid, Periodic, Ring};
 ghost use Rattle.search.specs.State.{view, group-at, family, head-by, Walked, Found};
@@ -10,12 +10,12 @@ ghost use lib.ListN.{length, set as put};
 ghost use mathlib.Core.Bool.{true};
 ghost use mathlib.Core.List.{_∷_};
 ghost use mathlib.Core.Path.{_≡_};
-use crate::bits::either;
-use crate::bits::holds;
 use crate::bits::only;
 use weight::Kind;
 use weight::Root;
 use weight::RootClone;
+use word_set::either;
+use word_set::holds;
 
 // A set of words, with the arc by which it is best entered, and that arc's value.
 #[derive(Clone, Copy)]

@@ -3,7 +3,7 @@ ghost use Prim.Native.Nat.{ℕ, suc, _+_, _*_, _^_, _<_, _≤_};
 ghost use Rattle.arborescence.specs.Search.{Tree, leads};
 ghost use Rattle.arborescence.specs.Sum.{sum-if};
 ghost use Rattle.search.specs.Arcs.{allowed, arc-worth, potential, Sound};
-ghost use Rattle.search.specs.Bits.{in-set};
+ghost use Rattle.word_set.specs.Bits.{in-set};
 ghost use Rattle.search.specs.Family.{rep-of, best-of};
 ghost use Rattle.search.specs.Ring.{Laid, Ring};
 ghost use Rattle.search.specs.State.{group-at, family, State, Room, Grown};
@@ -14,7 +14,6 @@ ghost use lib.ListN.{length, set as put};
 ghost use mathlib.Core.Bool.{true, false, cond, _&&_};
 ghost use mathlib.Core.Path.{_≡_};
 use crate::arcs::best_into;
-use crate::bits::holds;
 use crate::family::Node;
 use crate::family::find_ring;
 use crate::family::place;
@@ -23,6 +22,7 @@ use crate::family::top;
 use weight::Kind;
 use weight::Root;
 use weight::RootKind;
+use word_set::holds;
 
 // The sum of the values of the sets whose words are members.
 fn total<K: Kind + Copy>(

@@ -5,12 +5,12 @@ ghost use Rattle.search.specs.State.{group-at};
 ghost use Rattle.tree.specs.Chains.{Word, head-of};
 ghost use lib.ListN.{length};
 ghost use mathlib.Core.Path.{_≡_};
-use crate::bits::either;
-use crate::bits::holds;
 use crate::bits::only;
 use crate::family::Node;
 use crate::family::node_at;
 use weight::Kind;
+use word_set::either;
+use word_set::holds;
 
 // Whether two sets have a word in common.
 fn meets(n: usize, a: u64, b: u64) -> bool

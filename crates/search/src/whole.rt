@@ -15,7 +15,6 @@ use crate::arcs::arc;
 use crate::arcs::best_head;
 use crate::arcs::open_heads;
 use crate::bits::only;
-use crate::bits::without;
 use crate::family::Node;
 use crate::family::place;
 use crate::merging::grow;
@@ -24,6 +23,7 @@ use crate::opening::open;
 use weight::Kind;
 use weight::Root;
 use weight::RootKind;
+use word_set::without;
 
 // Every potential is nothing.
 fn clear<K: Kind + Copy>(n: usize, potentials: &mut [Root<K>])

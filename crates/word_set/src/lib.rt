@@ -27,6 +27,13 @@ pub fn either(a: u64, b: u64) -> u64
     a | b
 }
 
+// The words of both sets.
+pub fn both(a: u64, b: u64) -> u64
+    ensures { λ r. ⌜ ((v : ℕ) → in-set r v ≡ (in-set a v && in-set b v)) ⌝ }
+{
+    a & b
+}
+
 // The words of the first set that are not in the second.
 pub fn without(a: u64, b: u64) -> u64
     ensures { λ r. ⌜ ((v : ℕ) → in-set r v ≡ (in-set a v && not (in-set b v))) ⌝ }

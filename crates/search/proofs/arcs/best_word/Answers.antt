@@ -3,9 +3,9 @@ use Prim.Native.Nat.{ℕ, _≤_}
 use native.Mathlib.Omega.{arith}
 use Rattle.std.specs.declared.option.Option.the-variants.{Some}
 use Rattle.weight.specs.Worth.{Worth}
-use Rattle.search.specs.Bits.{in-set}
+use Rattle.word_set.specs.Bits.{in-set}
 use Rattle.search.specs.Arcs.{weight-at}
-use Rattle.search.proofs.Sets.{in-set-empty}
+use Rattle.word_set.proofs.Sets.{in-set-empty}
 use Rattle.search.proofs.Counts.{members-less}
 use Rattle.search.proofs.Scan.{Seen, seen-more, seen-all}
 use Rattle.search.proofs.arcs.best_word.Needs as need

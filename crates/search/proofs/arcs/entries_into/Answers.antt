@@ -3,8 +3,8 @@ use mathlib.Core.Bool.{not}
 use Prim.Native.Nat.{ℕ}
 use native.Mathlib.Omega.{arith}
 use Rattle.std.proofs.shelf.Tests.{and-from}
-use Rattle.search.specs.Bits.{in-set}
-use Rattle.search.proofs.Sets.{in-set-empty}
+use Rattle.word_set.specs.Bits.{in-set}
+use Rattle.word_set.proofs.Sets.{in-set-empty}
 use Rattle.search.proofs.Counts.{members-less}
 use Rattle.search.proofs.arcs.entries_into.Needs as need
 

@@ -2,7 +2,7 @@ use mathlib.Core.Path.{_≡_}
 use mathlib.Core.Bool.{true, not, _&&_}
 use Prim.Native.Nat.{ℕ}
 use Rattle.weight.specs.Range.{entry-in}
-use Rattle.search.specs.Bits.{in-set}
+use Rattle.word_set.specs.Bits.{in-set}
 use Rattle.search.specs.Arcs.{weight-at, Entries-into}
 use Rattle.search.proofs.Counts.{members}
 use Rattle.search.proofs.arcs.entries_into.Given as given

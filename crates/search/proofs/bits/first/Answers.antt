@@ -1,7 +1,7 @@
 use borrow.Author.Needs.{needs}
 use Prim.Native.Nat.{_^_, _<_}
 use native.Mathlib.Omega.{arith}
-use Rattle.search.proofs.Sets.{lowest-in}
+use Rattle.word_set.proofs.Sets.{lowest-in}
 use Rattle.search.proofs.bits.first.Needs as need
 
 pub returns : need.returns

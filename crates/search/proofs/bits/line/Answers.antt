@@ -1,6 +1,6 @@
 use Prim.Native.Nat.{_+_}
 use native.Mathlib.Omega.{arith}
-use Rattle.search.proofs.Sets.{in-set-line}
+use Rattle.word_set.proofs.Sets.{in-set-line}
 use Rattle.std.proofs.shelf.Bits.{one-shl}
 use Rattle.search.proofs.bits.line.Needs as need
 

@@ -1,4 +1,4 @@
-use Rattle.search.proofs.Sets.{in-set-one}
+use Rattle.word_set.proofs.Sets.{in-set-one}
 use Rattle.std.proofs.shelf.Bits.{one-shl}
 use Rattle.search.proofs.bits.only.Needs as need
 

@@ -1,4 +1,4 @@
-use Rattle.search.proofs.Sets.{in-set-empty}
+use Rattle.word_set.proofs.Sets.{in-set-empty}
 use mathlib.Core.Path.{_≡_, refl, sym, ap, _∙_, subst}
 use Prim.Native.Nat.{ℕ, _≤_}
 use Rattle.search.specs.Family.{Group, from-of}

@@ -5,9 +5,9 @@ use Prim.Native.Nat.{ℕ, suc, _+_, _-_, _≤_, _<_}
 use native.Mathlib.Omega.{arith}
 use Rattle.std.proofs.shelf.Tests.{both-ways, eq-eqb}
 use Rattle.tree.specs.Chains.{Word, up}
-use Rattle.search.specs.Bits.{in-set}
+use Rattle.word_set.specs.Bits.{in-set}
 use Rattle.search.specs.State.{group-at, head-by}
-use Rattle.search.proofs.Sets.{in-set-empty}
+use Rattle.word_set.proofs.Sets.{in-set-empty}
 use Rattle.search.proofs.Counts.{missing-less}
 use Rattle.search.proofs.Records.{leads-more, start-seen, not-root, walked-start}
 use Rattle.search.proofs.family.walk.Needs as need

@@ -6,7 +6,7 @@ use lib.ListN.{length}
 use Rattle.std.proofs.shelf.Tests.{false≢true}
 use Rattle.weight.specs.Worth.{Worth, plus, Within}
 use Rattle.arborescence.specs.Search.{leads}
-use Rattle.search.specs.Bits.{in-set}
+use Rattle.word_set.specs.Bits.{in-set}
 use Rattle.weight.specs.Layers.{root-worth}
 use Rattle.search.specs.Arcs.{allowed, arc-worth, potential}
 use Rattle.search.specs.Family.{rep-of}

@@ -8,7 +8,7 @@ use Rattle.weight.specs.Worth.{Worth, plus, minus, Within}
 use Rattle.tree.specs.Chains.{Word}
 use Rattle.weight.proofs.Worths.{within-more, within-plus}
 use Rattle.search.proofs.Scan.{element}
-use Rattle.search.specs.Bits.{in-set}
+use Rattle.word_set.specs.Bits.{in-set}
 use Rattle.weight.specs.Layers.{root-worth}
 use Rattle.search.specs.Arcs.{potential}
 use Rattle.search.specs.Family.{Group, best-of}

@@ -3,7 +3,7 @@ use mathlib.Core.Bool.{cond}
 use Prim.Native.Nat.{ℕ, _-_, _<_, _≤_}
 use Rattle.weight.specs.Worth.{plus, minus}
 use Rattle.tree.specs.Chains.{Word}
-use Rattle.search.specs.Bits.{in-set}
+use Rattle.word_set.specs.Bits.{in-set}
 use Rattle.weight.specs.Layers.{root-worth}
 use Rattle.search.specs.Arcs.{potential}
 use Rattle.search.specs.Family.{best-of}

@@ -8,7 +8,7 @@ use Rattle.weight.specs.Worth.{Worth, plus, Within}
 use Rattle.arborescence.specs.Sum.{sum-if}
 use Rattle.arborescence.specs.Search.{leads}
 use Rattle.weight.proofs.Worths.{within-more, plus-none}
-use Rattle.search.specs.Bits.{in-set}
+use Rattle.word_set.specs.Bits.{in-set}
 use Rattle.weight.specs.Worth.{zeros}
 use Rattle.weight.specs.Layers.{root-worth}
 use Rattle.search.specs.Family.{Group, rep-of, best-of}

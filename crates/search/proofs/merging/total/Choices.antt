@@ -4,7 +4,7 @@ use Prim.Native.Nat.{suc, _-_}
 use Rattle.weight.specs.Worth.{plus}
 use Rattle.arborescence.specs.Sum.{sum-if}
 use Rattle.arborescence.specs.Search.{leads}
-use Rattle.search.specs.Bits.{in-set}
+use Rattle.word_set.specs.Bits.{in-set}
 use Rattle.weight.specs.Worth.{zeros}
 use Rattle.weight.specs.Layers.{root-worth}
 use Rattle.search.specs.Family.{rep-of, best-of}

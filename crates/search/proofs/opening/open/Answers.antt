@@ -8,11 +8,11 @@ use Rattle.weight.specs.Worth.{Worth, zeros}
 use Rattle.tree.specs.Chains.{Word, head-of}
 use Rattle.arborescence.specs.Sum.{sum-if}
 use Rattle.arborescence.specs.Search.{leads}
-use Rattle.search.specs.Bits.{in-set}
+use Rattle.word_set.specs.Bits.{in-set}
 use Rattle.search.specs.Family.{Group, rep-of, best-of}
 use Rattle.search.specs.State.{view, group-at, family}
 use Rattle.search.specs.Opening.{Opened, Meets}
-use Rattle.search.proofs.Sets.{in-set-empty}
+use Rattle.word_set.proofs.Sets.{in-set-empty}
 use Rattle.search.proofs.Stages.{valid-laid}
 use Rattle.search.proofs.Openings.{open-start, open-end}
 use Rattle.search.proofs.Heads.{valid-down, opens-done, opens-own}
