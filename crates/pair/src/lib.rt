@@ -12,6 +12,8 @@ use weight::Kind;
 use weight::Opens;
 use weight::Score;
 use weight::ScoreKind;
+use weight::place_difference;
+use weight::place_sum;
 use weight::show_front;
 
 #[derive(Clone, Copy)]
@@ -50,15 +52,15 @@ pub impl Kind for Pair as PairKind {
 
     fn sum(&self, other: &Pair) -> Pair {
         Pair {
-            first: self.first.saturating_add(other.first),
-            second: self.second.saturating_add(other.second),
+            first: place_sum(self.first, other.first),
+            second: place_sum(self.second, other.second),
         }
     }
 
     fn difference(&self, other: &Pair) -> Pair {
         Pair {
-            first: self.first.saturating_sub(other.first),
-            second: self.second.saturating_sub(other.second),
+            first: place_difference(self.first, other.first),
+            second: place_difference(self.second, other.second),
         }
     }
 

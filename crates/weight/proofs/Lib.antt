@@ -1,5 +1,4 @@
 pub mod Worths
 pub mod Ranges
 pub mod Places
-pub mod Exact
 mod Texts

@@ -8,6 +8,8 @@ ghost use Rattle.weight.specs.Range.{limit};
 ghost use Rattle.weight.specs.Numbers.{cost-worth};
 use crate::Kind;
 use crate::Opens;
+use crate::place_difference;
+use crate::place_sum;
 use crate::show_place;
 use refusal::Refusal;
 use std::cmp::Ordering;
@@ -46,13 +48,13 @@ pub impl Kind for Cost as CostKind {
 
     fn sum(&self, other: &Cost) -> Cost {
         Cost {
-            value: self.value.saturating_add(other.value),
+            value: place_sum(self.value, other.value),
         }
     }
 
     fn difference(&self, other: &Cost) -> Cost {
         Cost {
-            value: self.value.saturating_sub(other.value),
+            value: place_difference(self.value, other.value),
         }
     }
 

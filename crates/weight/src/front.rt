@@ -7,6 +7,8 @@ ghost use Rattle.weight.specs.Layers.{front-worth};
 ghost use Rattle.weight.specs.Range.{entry-in};
 ghost use Rattle.weight.specs.Text.{Shown};
 use crate::Kind;
+use crate::place_difference;
+use crate::place_sum;
 use crate::show_front;
 use refusal::Refusal;
 use std::cmp::Ordering;
@@ -31,7 +33,7 @@ impl<K: Kind> Front<K> {
         ensures { λ r. ⌜ Sum-is (front-worth (K·Kind .worth) (now (self .entry))) (front-worth (K·Kind .worth) (now (other .entry))) (front-worth (K·Kind .worth) r) ⌝ }
     {
         Front {
-            place: self.place.saturating_add(other.place),
+            place: place_sum(self.place, other.place),
             rest: self.rest.sum(&other.rest),
         }
     }
@@ -40,7 +42,7 @@ impl<K: Kind> Front<K> {
         ensures { λ r. ⌜ Difference-is (front-worth (K·Kind .worth) (now (self .entry))) (front-worth (K·Kind .worth) (now (other .entry))) (front-worth (K·Kind .worth) r) ⌝ }
     {
         Front {
-            place: self.place.saturating_sub(other.place),
+            place: place_difference(self.place, other.place),
             rest: self.rest.difference(&other.rest),
         }
     }

@@ -15,6 +15,7 @@ mod mark;
 mod root;
 mod score;
 mod showing;
+mod sums;
 
 pub use cost::Cost;
 pub use cost::CostKind;
@@ -31,6 +32,8 @@ pub use score::ScoreKind;
 pub use score::ScoreOpens;
 pub use showing::show_front;
 pub use showing::show_place;
+pub use sums::place_difference;
+pub use sums::place_sum;
 
 // A kind of weight: its five rules are nothing, sum with difference, comparison, entry and showing.
 pub trait Kind {

@@ -8,6 +8,8 @@ ghost use Rattle.weight.specs.Range.{limit};
 ghost use Rattle.weight.specs.Numbers.{score-worth};
 use crate::Kind;
 use crate::Opens;
+use crate::place_difference;
+use crate::place_sum;
 use crate::show_place;
 use refusal::Refusal;
 use std::cmp::Ordering;
@@ -44,13 +46,13 @@ pub impl Kind for Score as ScoreKind {
 
     fn sum(&self, other: &Score) -> Score {
         Score {
-            value: self.value.saturating_add(other.value),
+            value: place_sum(self.value, other.value),
         }
     }
 
     fn difference(&self, other: &Score) -> Score {
         Score {
-            value: self.value.saturating_sub(other.value),
+            value: place_difference(self.value, other.value),
         }
     }
 
