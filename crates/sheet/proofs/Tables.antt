@@ -1,22 +1,24 @@
 -- The arcs that the memory holds after one of them is changed.
-use Prim.Native.Nat.{ℕ, _+_, _-_, _*_, _/_, _<_, _≤_}
-use Rattle.refusal.specs.declared.Refusal.the-variants.{ShortMemory, NoDependent, HeadAbove, SelfLoop}
+use Prim.Native.Nat.{ℕ, zero, suc, _+_, _-_, _*_, _/_, _<_, _≤_}
+use Rattle.refusal.specs.declared.Refusal.the-variants.{WordCount, ShortMemory, NoDependent, HeadAbove, SelfLoop}
 use Rattle.refusal.specs.declared.Refusal.{Refusal}
 use Rattle.sheet.proofs.Lists.{nth-set-same, nth-set-other, nth-some, drop-set}
-use Rattle.sheet.specs.Arcs.{Arcs, arcs-in, with-arc, named, on-line, place}
-use Rattle.sheet.specs.Calls.{Holds, or-else, refuse-if, memory-check, arc-check, ends-check}
+use Rattle.sheet.specs.Arcs.{Arcs, arcs-in, no-arcs, with-arc, named, on-line, place}
+use Rattle.sheet.specs.Calls.{Holds, or-else, refuse-if, memory-check, arc-check, ends-check, open-check, too-short}
+use Rattle.sheet.specs.declared.Lengths.{Lengths}
 use Rattle.std.proofs.shelf.Bits.{mul-add-lt, div-mul-add}
-use Rattle.std.proofs.shelf.Lists.{getD-set-same, getD-set-other}
+use Rattle.std.proofs.shelf.Lists.{getD-set-same, getD-set-other, drop-at}
 use Rattle.std.proofs.shelf.Tests.{cases-lt, cases-eq, cases-bool, eq-eqb, ne-eqb, le-leb, leb-true, lt-ltb, ltb-false, eqb-false, and-parts, and-from, and-right, or-parts}
 use Rattle.std.specs.Options.{isSome}
 use Rattle.std.specs.declared.option.Option.the-variants.{Some, None}
 use Rattle.std.specs.declared.option.Option.{Option}
 use Rattle.std.specs.shelf.Maps.{nth}
+use Rattle.word_set.proofs.Sets.{in-set-empty}
 use Rattle.word_set.specs.Bits.{in-set}
 use lib.Dec.{eqb, leb, ltb}
-use lib.ListN.{length, getD, set, drop}
+use lib.ListN.{length, getD, set, drop, replicate, length-replicate}
 use mathlib.Core.Bool.{Bool, true, false, cond, not, _&&_, _||_}
-use mathlib.Core.List.{List}
+use mathlib.Core.List.{List, _++_}
 use mathlib.Core.Logic.{_⊎_, inl, inr}
 use mathlib.Core.Path.{_≡_, refl, sym, ap, subst, _∙_}
 use native.Mathlib.Omega.{arith}
@@ -171,3 +173,33 @@ module _ {K : Type 0} (n h d : ℕ) (few : n ≤ 40) (weights : List K) (sets : 
 
       down : in-set s h ≡ false
       down = rw (less h, one h, eq-eqb h h refl, near) (and-none (in-set (getD sets (d - 1) 0) h))
+
+getD-cleared : (k i : ℕ) (rest : List ℕ) → i < k → getD (replicate k 0 ++ rest) i 0 ≡ 0
+getD-cleared zero i rest lt = absurd (omega arith)
+getD-cleared (suc k) zero rest lt = refl
+getD-cleared (suc k) (suc i) rest lt = getD-cleared k i rest (omega arith)
+
+-- a fresh sheet: no bit is up
+pub fresh : {K : Type 0} (n : ℕ) (weights : List K) (sets : List ℕ) → n ≤ length sets → Holds n no-arcs weights weights sets (replicate n 0 ++ drop n sets)
+fresh n weights sets room =
+    record {
+      standing = λ h d. none h d (cases-bool (on-line n h d));
+      weights-beyond = refl;
+      sets-beyond = drop-at (replicate n 0) (drop n sets) n (length-replicate n 0);
+    }
+  where
+    none : (h d : ℕ) → (on-line n h d ≡ true) ⊎ (on-line n h d ≡ false) → arcs-in n weights (replicate n 0 ++ drop n sets) h d ≡ None
+    none h d (inr off) = rw off refl
+    none h d (inl on) =
+        let e = ends-from n h d on in
+        let lt : d - 1 < n = omega (arith, e .some, e .dependent) in
+        let zero : getD (replicate n 0 ++ drop n sets) (d - 1) 0 ≡ 0 = getD-cleared n (d - 1) (drop n sets) lt in
+        rw (on, zero, in-set-empty h) refl
+
+-- an opening that passes finds the sets long enough
+pub opened-sets : (n : ℕ) (l : Lengths) → open-check n l ≡ None → n ≤ l .sets
+opened-sets n l none =
+    let a = passes (eqb n 0 || ltb 40 n) WordCount (refuse-if (too-short n l) ShortMemory) none in
+    let short = last-passes (too-short n l) ShortMemory (a .1) in
+    let rest = or-parts (ltb (l .weights) (n * (n + 1))) _ short in
+    ltb-false (l .sets) n (or-parts (ltb (l .sets) n) _ (rest .1) .0)

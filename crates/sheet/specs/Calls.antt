@@ -1,8 +1,9 @@
 -- What open, put and strike answer and leave in the memory.
-use Prim.Native.Nat.{ℕ, _+_, _*_}
+use Prim.Native.Nat.{ℕ, _+_, _-_, _*_}
 use Rattle.refusal.specs.declared.Refusal.the-variants.{WordCount, ShortMemory, NoDependent, HeadAbove, SelfLoop, NoEntry, AbsentArc}
 use Rattle.refusal.specs.declared.Refusal.{Refusal}
 use Rattle.sheet.specs.Arcs.{Arcs, arcs-in}
+use Rattle.sheet.specs.declared.Lengths.{Lengths}
 use Rattle.std.specs.declared.option.Option.the-variants.{Some, None}
 use Rattle.std.specs.declared.option.Option.{Option}
 use Rattle.std.specs.Results.{isOk}
@@ -45,8 +46,13 @@ put-check n weights sets h d entry = or-else (ends-check n weights sets h d) (re
 abbrev pub strike-check : ℕ → ℕ → ℕ → ℕ → ℕ → Bool → Option Refusal
 strike-check n weights sets h d standing = or-else (ends-check n weights sets h d) (refuse-if (not standing) AbsentArc)
 
-abbrev pub count-check : ℕ → Option Refusal
-count-check n = refuse-if (eqb n 0 || ltb 40 n) WordCount
+-- some part is shorter than listed for n words
+abbrev pub too-short : ℕ → Lengths → Bool
+too-short n l =
+    ltb (l .weights) (n * (n + 1)) || (ltb (l .sets) n || (ltb (l .candidates) 51 || (ltb (l .nodes) (n + 1) || (ltb (l .merges) (n - 1) || ltb (l .potentials) (n + 1)))))
+
+abbrev pub open-check : ℕ → Lengths → Option Refusal
+open-check n l = or-else (refuse-if (eqb n 0 || ltb 40 n) WordCount) (refuse-if (too-short n l) ShortMemory)
 
 -- ---- what the memory is afterwards
 

@@ -1,7 +1,7 @@
 // A sheet: which arcs of a line stand, each with its weight, in memory that the caller lends.
 ghost use Prim.Native.Nat.{ℕ, _+_, _-_, _*_, _≤_, _<_};
 ghost use Rattle.sheet.specs.Arcs.{arcs-in, no-arcs, with-arc, Room};
-ghost use Rattle.sheet.specs.Calls.{Answered, arc-check, count-check, ends-check, Holds, memory-check, or-else, put-check, strike-check};
+ghost use Rattle.sheet.specs.Calls.{Answered, arc-check, ends-check, Holds, memory-check, open-check, put-check, strike-check, too-short};
 ghost use Rattle.std.specs.Options.{isSome};
 ghost use Rattle.std.specs.Vec.{made};
 ghost use Rattle.std.specs.declared.option.Option.the-variants.{Some, None};
@@ -11,9 +11,11 @@ ghost use lib.ListN.{length, getD, set, drop, replicate};
 ghost use mathlib.Core.List.{_++_};
 ghost use mathlib.Core.Path.{_≡_};
 use refusal::Refusal;
+use search::Node;
 use std::marker::PhantomData;
 use weight::Kind;
 use weight::Opens;
+use weight::Root;
 use word_set::either;
 use word_set::holds;
 use word_set::only;
@@ -25,6 +27,107 @@ pub struct Sheet<K> {
     words: usize,
     of: PhantomData<K>,
     ghost line: { (1 ≤ words) × (words ≤ 40) },
+}
+
+// How long each part of the memory is.
+#[derive(Clone, Copy)]
+pub struct Lengths {
+    pub weights: usize,
+    pub sets: usize,
+    pub candidates: usize,
+    pub nodes: usize,
+    pub merges: usize,
+    pub potentials: usize,
+}
+
+// A tree that waits to be handed out: the heaviest of its cell. The cell holds the trees with the same heads before the word
+// `from`, and at that word a head that is not banned.
+#[derive(Clone, Copy)]
+pub struct Candidate<K> {
+    heads: [u8; 40],
+    weight: K,
+    from: usize,
+    banned: u64,
+}
+
+impl<K> Candidate<K> {
+    // A record to fill the memory with.
+    pub fn new(weight: K) -> Candidate<K>
+        ensures { λ r. ⌜ (r .heads ≡ replicate 40 0) × (r .weight ≡ weight) × (r .from ≡ 1) × (r .banned ≡ 0) ⌝ }
+    {
+        Candidate {
+            heads: [0; 40],
+            weight,
+            from: 1,
+            banned: 0,
+        }
+    }
+}
+
+// Opens a sheet: every arc of its line is absent, whatever the memory held.
+pub fn open<K: Opens + Copy>(
+    words: usize,
+    weights: &[K],
+    sets: &mut [u64],
+    candidates: &[Candidate<K>],
+    nodes: &[Node<K>],
+    merges: &[Node<K>],
+    potentials: &[Root<K>],
+) -> Result<Sheet<K>, Refusal>
+    ensures { λ r. ⌜ Answered (open-check words (record { weights = length (now (weights .entry)); sets = length (now (sets .entry)); candidates = length (now (candidates .entry)); nodes = length (now (nodes .entry)); merges = length (now (merges .entry)); potentials = length (now (potentials .entry)) })) r (now (sets .exit) ≡ now (sets .entry)) (made r (λ s. s .words ≡ words) × Holds words no-arcs (now (weights .entry)) (now (weights .entry)) (now (sets .entry)) (now (sets .exit))) ⌝ }
+{
+    let lengths = Lengths {
+        weights: weights.len(),
+        sets: sets.len(),
+        candidates: candidates.len(),
+        nodes: nodes.len(),
+        merges: merges.len(),
+        potentials: potentials.len(),
+    };
+    if let Some(why) = open_check(words, lengths) {
+        return Err(why);
+    }
+    clear_sets(words, weights, sets);
+    Ok(Sheet {
+        words,
+        of: PhantomData,
+    })
+}
+
+// Which check of an opening fails first, if any does.
+fn open_check(words: usize, lengths: Lengths) -> Option<Refusal>
+    ensures { λ r. ⌜ r ≡ open-check words lengths ⌝ }
+{
+    if words == 0 || words > 40 {
+        return Some(Refusal::WordCount);
+    }
+    if too_short(words, lengths) {
+        return Some(Refusal::ShortMemory);
+    }
+    None
+}
+
+// Whether some part is shorter than listed.
+fn too_short(words: usize, lengths: Lengths) -> bool
+    requires { ⌜ 1 ≤ words ⌝ ∗ ⌜ words ≤ 40 ⌝ }
+    ensures { λ r. ⌜ r ≡ too-short words lengths ⌝ }
+{
+    lengths.weights < words * (words + 1)
+        || lengths.sets < words
+        || lengths.candidates < 51
+        || lengths.nodes < words + 1
+        || lengths.merges < words - 1
+        || lengths.potentials < words + 1
+}
+
+// Makes every arc absent.
+fn clear_sets<K>(words: usize, weights: &[K], sets: &mut [u64])
+    requires { ⌜ words ≤ length (now sets) ⌝ }
+    ensures { λ _. ⌜ Holds words no-arcs (now (weights .entry)) (now (weights .entry)) (now (sets .entry)) (now (sets .exit)) ⌝ }
+{
+    for i in 0..words {
+        sets[i] = 0;
+    }
 }
 
 // Gives an arc a weight, in place of any that it had.
