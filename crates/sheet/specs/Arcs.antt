@@ -1,12 +1,12 @@
 -- Which arcs stand on a sheet, and where the memory holds them.
 -- Of n words, bit h of sets[d - 1] is up where the arc from h to d stands, and weights[(d - 1) * (n + 1) + h] is its weight.
-use Prim.Native.Nat.{ℕ, _+_, _-_, _*_, _≤_}
+use Prim.Native.Nat.{ℕ, _+_, _-_, _*_}
 use Rattle.std.specs.declared.option.Option.the-variants.{Some, None}
 use Rattle.std.specs.declared.option.Option.{Option}
 use Rattle.std.specs.shelf.Maps.{nth}
 use Rattle.word_set.specs.Bits.{in-set}
 use lib.Dec.{eqb, leb}
-use lib.ListN.{length, getD}
+use lib.ListN.{getD}
 use mathlib.Core.Bool.{Bool, cond, _&&_}
 use mathlib.Core.List.{List}
 
@@ -37,7 +37,3 @@ place n h d = (d - 1) * (n + 1) + h
 -- the arcs that the memory of n words holds
 abbrev pub arcs-in : {K : Type 0} → ℕ → List K → List ℕ → Arcs K
 arcs-in n weights sets h d = cond (on-line n h d && in-set (getD sets (d - 1) 0) h) (nth weights (place n h d)) None
-
--- the memory of the arcs is long enough for n words
-abbrev pub Room : ℕ → ℕ → ℕ → Type 0
-Room n weights sets = (n * (n + 1) ≤ weights) × (n ≤ sets)

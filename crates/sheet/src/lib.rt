@@ -1,14 +1,12 @@
 // A sheet: which arcs of a line stand, each with its weight, in memory that the caller lends.
-ghost use Prim.Native.Nat.{ℕ, _+_, _-_, _*_, _≤_, _<_};
-ghost use Rattle.sheet.specs.Arcs.{arcs-in, no-arcs, with-arc, Room};
+ghost use Prim.Native.Nat.{_≤_, _<_};
+ghost use Rattle.sheet.specs.Arcs.{arcs-in, no-arcs, with-arc};
 ghost use Rattle.sheet.specs.Calls.{Answered, arc-check, ends-check, Holds, memory-check, open-check, put-check, strike-check, too-short};
 ghost use Rattle.std.specs.Options.{isSome};
 ghost use Rattle.std.specs.Vec.{made};
 ghost use Rattle.std.specs.declared.option.Option.the-variants.{Some, None};
 ghost use Rattle.weight.specs.Range.{entry-in};
-ghost use Rattle.word_set.specs.Bits.{in-set};
-ghost use lib.ListN.{length, getD, set, drop, replicate};
-ghost use mathlib.Core.List.{_++_};
+ghost use lib.ListN.{length, set, replicate};
 ghost use mathlib.Core.Path.{_≡_};
 use refusal::Refusal;
 use search::Node;
@@ -286,3 +284,6 @@ fn write_weight<K: Copy>(weights: &mut [K], at: usize, weight: K)
 {
     weights[at] = weight;
 }
+
+#[cfg(test)]
+mod tests;
