@@ -1,13 +1,14 @@
 -- Reading a line of numbers gives back the numbers whose text it is, and fails at every other line.
 use Prim.Native.Nat.{ℕ, suc, _+_, _-_, _*_, _/_, _%_, _^_, _<_, _≤_}
 use Rattle.reading.specs.Reading.{is-digit, with-digit, go-on, read-on}
-use Rattle.reading.specs.Spaced.{spaced, Spells, Spells-none}
+use Rattle.reading.specs.Spaced.{Spells, Spells-none}
 use Rattle.std.proofs.shelf.Decimals.{decimal-digit, decimal-step, decimal-by-steps}
 use Rattle.std.proofs.shelf.Tests.{cases-bool, both-ways, and-parts, and-from, leb-true, le-leb, eqb-true, eqb-false, ne-eqb, ltb-false, le-ltb}
 use Rattle.std.specs.Written.{decimal}
 use Rattle.std.specs.declared.option.Option.the-variants.{Some, None}
 use Rattle.std.specs.declared.option.Option.{Option}
 use Rattle.std.specs.shelf.Lists.{All}
+use Rattle.text.specs.Spaced.{spaced}
 use lib.Dec.{eqb, ltb, leb}
 use lib.ListN.{length}
 use mathlib.Core.Bool.{Bool, true, false, cond}
