@@ -20,6 +20,13 @@ pub part-shown : (s t m : List ℕ) (at k n : ℕ) → n ≡ length t → n ≤ 
 part-shown s t m at k n l h e =
     let part = drop at s in
     let rest : drop n (take k part) ++ drop k part ≡ drop (at + length t) s =
-        sym (drop-append-le n (take k part) (drop k part) h) ∙ ap (drop n) (take-append-drop k part) ∙ drop-drop n at s ∙ ap (λ i. drop (at + i) s) l in
+    sym (drop-append-le n (take k part) (drop k part) h) ∙ ap (drop n) (take-append-drop k part) ∙ drop-drop n at s ∙ ap (λ i. drop (at + i) s) l in
     ap (λ x. take at s ++ (x ++ drop k part)) e
     ∙ ap (λ x. take at s ++ x) (append-assoc t (drop n (take k part)) (drop k part) ∙ ap (λ x. t ++ x) rest)
+
+-- a part that was left as it was
+pub part-kept : (s m : List ℕ) (at k : ℕ) → m ≡ take k (drop at s) → putMid at k s m ≡ s
+part-kept s m at k e =
+    ap (λ x. take at s ++ (x ++ drop k (drop at s))) e
+    ∙ ap (λ x. take at s ++ x) (take-append-drop k (drop at s))
+    ∙ take-append-drop at s

@@ -26,5 +26,11 @@ last-text NoMore = 110 ∷ 111 ∷ 32 ∷ 109 ∷ 111 ∷ 114 ∷ 101 ∷ 10 ∷
 last-text Fifty = 102 ∷ 105 ∷ 102 ∷ 116 ∷ 121 ∷ 10 ∷ []
 
 -- a refused file: `refused `, the refusal's number, ` at `, the place of the byte at fault
+abbrev pub refused-word : List ℕ
+refused-word = 114 ∷ 101 ∷ 102 ∷ 117 ∷ 115 ∷ 101 ∷ 100 ∷ 32 ∷ []
+
+abbrev pub at-word : List ℕ
+at-word = 32 ∷ 97 ∷ 116 ∷ 32 ∷ []
+
 abbrev pub refused-text : ℕ → ℕ → List ℕ
-refused-text number place = (114 ∷ 101 ∷ 102 ∷ 117 ∷ 115 ∷ 101 ∷ 100 ∷ 32 ∷ []) ++ (decimal number ++ ((32 ∷ 97 ∷ 116 ∷ 32 ∷ []) ++ (decimal place ++ (10 ∷ []))))
+refused-text number place = refused-word ++ (decimal number ++ (at-word ++ (decimal place ++ (10 ∷ []))))
