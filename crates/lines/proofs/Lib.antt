@@ -1,3 +1,4 @@
 mod Parts
 mod Spacing
 mod Pieces
+mod Tabs

@@ -1,7 +1,7 @@
 // The lines that tell a ranking: one for each tree and a last one, or a single one for a refused file.
 // Each call writes to the front of the space and returns the length of the line;
 // too short a space is refused and left as it was.
-ghost use Rattle.lines.specs.Lines.{tree-text, last-text, refused-text};
+ghost use Rattle.lines.specs.Lines.{tree-text, last-text, refused-text, Told-fields};
 ghost use Rattle.text.specs.Space.{Placed};
 use refusal::Refusal;
 use weight::Kind;
@@ -56,6 +56,11 @@ pub fn refused_line(number: u8, place: usize, space: &mut [u8]) -> Result<usize,
     }
     refused::write_refused(number, place, space)
 }
+
+// What holds of all lines of trees.
+pub fn laws()
+    ensures { λ _. ⌜ Told-fields ⌝ }
+{}
 
 #[cfg(test)]
 mod tests;

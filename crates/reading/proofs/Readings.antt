@@ -1,7 +1,7 @@
 -- Reading a line of numbers gives back the numbers whose text it is, and fails at every other line.
 use Prim.Native.Nat.{ℕ, suc, _+_, _-_, _*_, _/_, _%_, _^_, _<_, _≤_}
 use Rattle.reading.specs.Reading.{is-digit, with-digit, go-on, read-on}
-use Rattle.reading.specs.Spaced.{Spells, Spells-none}
+use Rattle.reading.specs.Spaced.{Spells, Spells-none, Spelled-once}
 use Rattle.std.proofs.shelf.Decimals.{decimal-digit, decimal-step, decimal-by-steps}
 use Rattle.std.proofs.shelf.Tests.{cases-bool, both-ways, and-parts, and-from, leb-true, le-leb, eqb-true, eqb-false, ne-eqb, ltb-false, le-ltb}
 use Rattle.std.specs.Written.{decimal}
@@ -120,3 +120,8 @@ pub read-none : (line : List ℕ) → read-on [] None line ≡ None → Spells-n
 read-none line e ns small spells =
     let yes : Some ns ≡ None = sym (complete [] ns small (spells .0)) ∙ ap (read-on [] None) (sym (spells .1)) ∙ e in
     both-ways true (cc) refl
+
+pub spelled-once : Spelled-once
+spelled-once line ns ms small small′ spells spells′ =
+    let same : Some ns ≡ Some ms = sym (complete [] ns small (spells .0)) ∙ ap (read-on [] None) (sym (spells .1) ∙ spells′ .1) ∙ complete [] ms small′ (spells′ .0) in
+    cc

@@ -13,3 +13,7 @@ Spells line ns = (1 ≤ length ns) × (line ≡ spaced ns)
 -- the line is the text of no list of bytes
 abbrev pub Spells-none : List ℕ → Type 0
 Spells-none line = (ns : List ℕ) → All (λ n. n < 256) ns → Spells line ns → ⊥
+
+-- a line spells no more than one list of bytes
+abbrev pub Spelled-once : Type 0
+Spelled-once = (line ns ms : List ℕ) → All (λ n. n < 256) ns → All (λ n. n < 256) ms → Spells line ns → Spells line ms → ns ≡ ms

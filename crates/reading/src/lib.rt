@@ -1,6 +1,6 @@
 // Lines of numbers, as people and programs write them.
 ghost use Rattle.reading.specs.Reading.{with-digit};
-ghost use Rattle.reading.specs.Spaced.{Spells, Spells-none};
+ghost use Rattle.reading.specs.Spaced.{Spells, Spells-none, Spelled-once};
 ghost use Rattle.std.specs.Of.Vec.{vec-items};
 ghost use Rattle.std.specs.Options.{Cases};
 ghost use Rattle.std.specs.Vec.{made};
@@ -55,3 +55,8 @@ fn digit_behind(number: Option<u8>, digit: u8) -> Option<u8>
         Some(n) => u8::try_from(u16::from(n) * 10 + value).ok(),
     }
 }
+
+// What holds of lines of numbers.
+pub fn laws()
+    ensures { λ _. ⌜ Spelled-once ⌝ }
+{}
