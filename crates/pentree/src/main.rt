@@ -1,5 +1,11 @@
 // Finds the heaviest tree of a line with scores: reads lines of numbers, and prints each step.
 // A line is the number of words, then head, dependent and score of each arc.
+ghost use Rattle.search.specs.Arcs.{allowed, weight-at};
+ghost use Rattle.weight.specs.Numbers.{score-worth};
+ghost use lib.IntN.{pos};
+ghost use mathlib.Core.Bool.{true, false};
+ghost use mathlib.Core.List.{[], _∷_};
+ghost use mathlib.Core.Path.{_≡_};
 use reading::read_spaced;
 use search::Node;
 use search::NodeClone;
@@ -14,8 +20,10 @@ use weight::RootClone;
 use weight::RootKind;
 use weight::Score;
 use weight::ScoreKind;
+use word_set::either;
+use word_set::only;
 
-// Puts an arc with its score; `false` where there is no such arc on the line.
+// Puts an arc with its score; `false`, and nothing changed, where there is no such arc on the line.
 fn put(
     words: usize,
     head: usize,
@@ -23,22 +31,18 @@ fn put(
     score: u8,
     sets: &mut [u64],
     weights: &mut [Score],
-) -> bool {
-    let place = dependent
-        .wrapping_sub(1)
-        .wrapping_mul(words.wrapping_add(1))
-        .wrapping_add(head);
-    if dependent < 1
-        || dependent > words
-        || head > words
-        || head == dependent
-        || head > 40
-        || dependent > sets.len()
-        || place >= weights.len()
-    {
+) -> bool
+    ensures refused { λ r. ⌜ (r ≡ false → (now (sets .exit) ≡ now (sets .entry)) × (now (weights .exit) ≡ now (weights .entry))) ⌝ }
+    ensures stands { λ r. ⌜ (r ≡ true → (allowed (now (sets .exit)) [] head dependent ≡ true) × (weight-at score-worth words (now (weights .exit)) head dependent ≡ pos score ∷ [])) ⌝ }
+{
+    if words > 40 || dependent < 1 || dependent > words || head > words || head == dependent {
         return false;
     }
-    sets[dependent - 1] |= 1 << head;
+    let place = (dependent - 1) * (words + 1) + head;
+    if dependent > sets.len() || place >= weights.len() {
+        return false;
+    }
+    sets[dependent - 1] = either(sets[dependent - 1], only(head));
     weights[place] = Score::new(i64::from(score));
     true
 }
