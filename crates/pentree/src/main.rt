@@ -1,15 +1,15 @@
 // Finds the heaviest tree of a line with scores: reads lines of numbers, and prints each step.
 // A line is the number of words, then head, dependent and score of each arc.
-ghost use Rattle.search.specs.Arcs.{allowed, weight-at};
-ghost use Rattle.weight.specs.Numbers.{score-worth};
-ghost use lib.IntN.{pos};
-ghost use mathlib.Core.Bool.{true, false};
-ghost use mathlib.Core.List.{[], _∷_};
-ghost use mathlib.Core.Path.{_≡_};
 use reading::read_spaced;
+use refusal::Refusal;
 use search::Node;
 use search::NodeClone;
 use search::best_tree;
+use sheet::Candidate;
+use sheet::CandidateClone;
+use sheet::Sheet;
+use sheet::open;
+use sheet::put;
 use std::io;
 use std::io::BufRead;
 use std::io::BufReader;
@@ -20,54 +20,35 @@ use weight::RootClone;
 use weight::RootKind;
 use weight::Score;
 use weight::ScoreKind;
-use word_set::either;
-use word_set::only;
+use weight::ScoreOpens;
 
-// Puts an arc with its score; `false`, and nothing changed, where there is no such arc on the line.
-fn put(
-    words: usize,
-    head: usize,
-    dependent: usize,
-    score: u8,
-    sets: &mut [u64],
-    weights: &mut [Score],
-) -> bool
-    ensures refused { λ r. ⌜ (r ≡ false → (now (sets .exit) ≡ now (sets .entry)) × (now (weights .exit) ≡ now (weights .entry))) ⌝ }
-    ensures stands { λ r. ⌜ (r ≡ true → (allowed (now (sets .exit)) [] head dependent ≡ true) × (weight-at score-worth words (now (weights .exit)) head dependent ≡ pos score ∷ [])) ⌝ }
-{
-    if words > 40 || dependent < 1 || dependent > words || head > words || head == dependent {
-        return false;
-    }
-    let place = (dependent - 1) * (words + 1) + head;
-    if dependent > sets.len() || place >= weights.len() {
-        return false;
-    }
-    sets[dependent - 1] = either(sets[dependent - 1], only(head));
-    weights[place] = Score::new(i64::from(score));
-    true
+// Prints the number of a refusal.
+fn print_refusal(rt: &LibcRuntime, refusal: Refusal) -> io::Result<()> {
+    let number = refusal.number();
+    println!(rt, "refused {number}")
 }
 
-// Puts the arcs of a line, and prints each.
+// Puts the arcs of a line on the sheet, and prints each.
 fn put_all(
     rt: &LibcRuntime,
-    words: usize,
+    sheet: &Sheet<Score>,
     arcs: &[u8],
-    sets: &mut [u64],
     weights: &mut [Score],
+    sets: &mut [u64],
 ) -> io::Result<()> {
     for arc in arcs.chunks(3) {
         if let [head, dependent, score] = arc {
-            if put(
-                words,
+            println!(rt, "arc {head} to {dependent}: {score}")?;
+            let weight = Score::new(i64::from(*score));
+            if let Err(refusal) = put(
+                sheet,
+                weights,
+                sets,
                 *head as usize,
                 *dependent as usize,
-                *score,
-                sets,
-                weights,
+                weight,
             ) {
-                println!(rt, "arc {head} to {dependent}: {score}")?;
-            } else {
-                println!(rt, "no arc {head} to {dependent}")?;
+                print_refusal(rt, refusal)?;
             }
         } else {
             println!(rt, "no whole arc at the end")?;
@@ -95,16 +76,30 @@ fn print_text(rt: &LibcRuntime, name: &str, bytes: &[u8]) -> io::Result<()> {
     println!(rt, "{name}: {text}")
 }
 
-// Searches one line.
+// Opens a sheet for one line, puts its arcs, and searches.
 fn search_line(rt: &LibcRuntime, words: usize, arcs: &[u8]) -> io::Result<()> {
+    let nothing = Score::new(0);
+    let mut weights = [nothing; 1640];
     let mut sets = [0; 40];
-    let mut weights = [Score::new(0); 1640];
-    let mut nodes = [Node::new(Score::new(0)); 41];
-    let mut merges = [Node::new(Score::new(0)); 39];
+    let candidates = [Candidate::new(nothing); 51];
+    let mut nodes = [Node::new(nothing); 41];
+    let mut merges = [Node::new(nothing); 39];
     let mut potentials: [Root<Score>; 41] = [RootKind::nothing(); 41];
-    let mut heads = [0; 40];
     println!(rt, "words: {words}")?;
-    put_all(rt, words, arcs, &mut sets, &mut weights)?;
+    let sheet = match open(
+        words,
+        &weights,
+        &mut sets,
+        &candidates,
+        &nodes,
+        &merges,
+        &potentials,
+    ) {
+        Ok(sheet) => sheet,
+        Err(refusal) => return print_refusal(rt, refusal),
+    };
+    put_all(rt, &sheet, arcs, &mut weights, &mut sets)?;
+    let mut heads = [0; 40];
     match best_tree(
         words,
         &sets,
@@ -115,10 +110,7 @@ fn search_line(rt: &LibcRuntime, words: usize, arcs: &[u8]) -> io::Result<()> {
         &mut potentials,
         &mut heads,
     ) {
-        Err(refusal) => {
-            let number = refusal.number();
-            println!(rt, "refused {number}")
-        }
+        Err(refusal) => print_refusal(rt, refusal),
         Ok(None) => println!(rt, "no tree"),
         Ok(Some(weight)) => print_tree(rt, weight, heads.get(..words).unwrap_or(&[])),
     }
