@@ -30,9 +30,6 @@ sum-split = totals.split plus [] plus-assoc plus-comm (λ a. refl)
 pub sum-out : (p : ℕ → Bool) (f : ℕ → Worth) (n j : ℕ) → Word n j → p j ≡ true → sum-if p f n ≡ plus (f j) (sum-if (but p j) f n)
 sum-out = totals.out plus [] plus-assoc plus-comm (λ a. refl)
 
-pub sum-one : (p : ℕ → Bool) (f : ℕ → Worth) (n j : ℕ) → Word n j → p j ≡ true → ((w : ℕ) → Word n w → p w ≡ true → w ≡ j) → sum-if p f n ≡ f j
-sum-one = totals.one plus [] plus-assoc plus-comm (λ a. refl)
-
 pub count-split : (p q : ℕ → Bool) (f : ℕ → ℕ) (n : ℕ) → count-if p f n ≡ count-if (λ w. p w && q w) f n + count-if (λ w. p w && not (q w)) f n
 count-split = totals.split _+_ 0 add-assoc add-comm zero-add
 

@@ -153,10 +153,3 @@ Kept =
     Sets n rep → Union n rep S s → S ℓ ≡ false →
     (Covers n stands worth rep add ℓ v → Covers n stands worth (merged S s rep) (raised S n rep add best) ℓ v)
     × ((h d : ℕ) → Into n stands rep ℓ h d → Into n stands (merged S s rep) ℓ h d × (raised S n rep add best d ≡ add d))
-
--- only what the root and the words have counts
-abbrev pub Good-same : Type 0
-Good-same =
-    (n : ℕ) (stands : ℕ → ℕ → Bool) (worth : ℕ → ℕ → Worth) (rep rep′ : ℕ → ℕ) (add add′ : ℕ → Worth) →
-    ((v : ℕ) → v ≤ n → rep′ v ≡ rep v) → ((d : ℕ) → Word n d → add′ d ≡ add d) →
-    Good n stands worth rep add → Good n stands worth rep′ add′

@@ -59,13 +59,6 @@ module _ (w : ℕ → Worth) where
   abbrev pub Seen : ℕ → ℕ → Option ℕ → Type 0
   Seen heads left best = ((h : ℕ) → in-set left h ≡ true → in-set heads h ≡ true) × Best-head (λ h. in-set heads h && not (in-set left h)) w best
 
-  pub seen-none : (heads : ℕ) → Seen heads heads None
-  seen-none heads = (λ h t. t, λ h. by (in-set heads h))
-    where
-      by : (b : Bool) → (b && not b) ≡ false
-      by true = refl
-      by false = refl
-
   pub seen-more : (heads left bit left′ : ℕ) (best : Option ℕ) (from : ℕ) → ((h : ℕ) → in-set left′ h ≡ (in-set left h && not (in-set bit h))) → ((h : ℕ) → in-set bit h ≡ eqb h from) → in-set left from ≡ true → Seen heads left best → Seen heads left′ (Some (better-head w best from))
   seen-more heads left bit left′ best from is one here s = (
     λ h t. s .0 h (and-parts (in-set left h) (not (in-set bit h)) (sym (is h) ∙ t) .0),
