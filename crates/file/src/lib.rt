@@ -1,0 +1,10 @@
+// A sheet's file: what kind it is of, and a reader for each kind.
+mod fault;
+mod frame;
+
+pub use fault::FileFault;
+pub use fault::FileFaultFromRecord;
+pub use fault::FileFaultFromRefusal;
+pub use fault::FileKind;
+pub use fault::RecordFault;
+pub use frame::kind_of;
