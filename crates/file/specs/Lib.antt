@@ -1,2 +1,4 @@
 pub mod Faults
 pub mod Frame
+pub mod Formats
+pub mod Records

@@ -1,5 +1,6 @@
 // A sheet's file: what kind it is of, and a reader for each kind.
 mod fault;
+mod format;
 mod frame;
 
 pub use fault::FileFault;
