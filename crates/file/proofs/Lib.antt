@@ -1,1 +1,4 @@
 mod Bytes
+mod Steps
+mod Frames
+mod Fills

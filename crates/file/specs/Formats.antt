@@ -5,6 +5,7 @@ use Rattle.file.specs.declared.fault.FileKind.{FileKind}
 use Rattle.weight.specs.Layers.{mark-worth}
 use Rattle.weight.specs.Numbers.{score-worth, cost-worth}
 use Rattle.weight.specs.Range.{Range, entry-in}
+use Rattle.weight.specs.Worth.{Worth}
 use Rattle.weight.specs.declared.cost.Cost.{Cost}
 use Rattle.weight.specs.declared.mark.Mark.{Mark}
 use Rattle.weight.specs.declared.score.Score.{Score}
@@ -54,11 +55,15 @@ cost-range = record { least = negℤ (pos 1000000); greatest = pos 0 }
 abbrev pub mark-range : Range
 mark-range = record { least = pos 0; greatest = pos 9 }
 
+-- a format, with the entries told by the ranges of the worth's places
+abbrev pub format-of : {K : Type 0} → FileKind → ℕ → (List ℕ → ℕ → K) → List Range → (K → Worth) → Format K
+format-of kind width weight-at ranges worth = record { kind = kind; width = width; weight-at = weight-at; entry = λ x. entry-in ranges (worth x) }
+
 abbrev pub score-format : Format Score
-score-format = record { kind = Score-file; width = 4; weight-at = score-at; entry = λ x. entry-in (score-range ∷ []) (score-worth x) }
+score-format = format-of Score-file 4 score-at (score-range ∷ []) score-worth
 
 abbrev pub cost-format : Format Cost
-cost-format = record { kind = Cost-file; width = 4; weight-at = cost-at; entry = λ x. entry-in (cost-range ∷ []) (cost-worth x) }
+cost-format = format-of Cost-file 4 cost-at (cost-range ∷ []) cost-worth
 
 abbrev pub mark-format : Format (Mark Score)
-mark-format = record { kind = Mark-file; width = 5; weight-at = mark-at; entry = λ x. entry-in (mark-range ∷ score-range ∷ []) (mark-worth score-worth x) }
+mark-format = format-of Mark-file 5 mark-at (mark-range ∷ score-range ∷ []) (mark-worth score-worth)

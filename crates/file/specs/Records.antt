@@ -6,12 +6,13 @@ use Rattle.refusal.specs.declared.Refusal.the-variants.{WordCount, ShortMemory,
 use Rattle.refusal.specs.declared.Refusal.{Refusal}
 use Rattle.sheet.specs.Arcs.{Arcs, with-arc}
 use Rattle.sheet.specs.Calls.{arc-check, or-else, refuse-if}
+use Rattle.std.specs.Results.{isOk}
 use Rattle.std.specs.declared.option.Option.the-variants.{Some, None}
 use Rattle.std.specs.declared.option.Option.{Option}
 use Rattle.std.specs.declared.result.Result.the-variants.{Ok, Err}
 use Rattle.std.specs.declared.result.Result.{Result}
-use lib.ListN.{getD}
-use mathlib.Core.Bool.{Bool, not}
+use lib.ListN.{getD, drop}
+use mathlib.Core.Bool.{Bool, true, not}
 use mathlib.Core.List.{List}
 use mathlib.Core.Path.{_≡_}
 
@@ -67,7 +68,17 @@ abbrev pub put-records : {K : Type 0} → Format K → List ℕ → ℕ → ℕ 
 put-records f file k zero arcs = arcs
 put-records f file k (suc left) arcs = put-records f file (k + 1) left (put-record f file k arcs)
 
+-- a put's refusal as the record's fault
+abbrev pub recorded : ℕ → ℕ → Result (Unit {0}) Refusal → Result (Unit {0}) RecordFault
+recorded k at (Ok u) = Ok u
+recorded k at (Err e) = Err (in-record k at e)
+
 -- the call is refused with that fault, or it is done
 abbrev pub Told : {T E : Type 0} → Option E → Result T E → (refused done : Type 0) → Type 0
 Told (Some e) r refused done = (r ≡ Err e) × refused
-Told None r refused done = ((e : _) → r ≡ Err e → ⊥) × done
+Told None r refused done = (isOk r ≡ true) × done
+
+-- beyond the listed length for n words the memory is as it was
+pub record Kept-beyond {K : Type 0} (n : ℕ) (weights weights′ : List K) (sets sets′ : List ℕ) : Type 0 where
+  pub weights-beyond : drop (n * (n + 1)) weights′ ≡ drop (n * (n + 1)) weights
+  pub sets-beyond : drop n sets′ ≡ drop n sets

@@ -50,7 +50,7 @@ fn four_at(file: &[u8], at: usize) -> [u8; 4]
     [file[at], file[at + 1], file[at + 2], file[at + 3]]
 }
 
-impl Recorded for Score as ScoreRecorded {
+pub(crate) impl Recorded for Score as ScoreRecorded {
     ghost kind = { Score-file };
 
     ghost width = { 4 };
@@ -72,7 +72,7 @@ impl Recorded for Score as ScoreRecorded {
     }
 }
 
-impl Recorded for Cost as CostRecorded {
+pub(crate) impl Recorded for Cost as CostRecorded {
     ghost kind = { Cost-file };
 
     ghost width = { 4 };
@@ -94,7 +94,7 @@ impl Recorded for Cost as CostRecorded {
     }
 }
 
-impl Recorded for Mark<Score> as MarkRecorded {
+pub(crate) impl Recorded for Mark<Score> as MarkRecorded {
     ghost kind = { Mark-file };
 
     ghost width = { 5 };

@@ -2,6 +2,8 @@
 mod fault;
 mod format;
 mod frame;
+mod reader;
+mod records;
 
 pub use fault::FileFault;
 pub use fault::FileFaultFromRecord;
@@ -9,3 +11,6 @@ pub use fault::FileFaultFromRefusal;
 pub use fault::FileKind;
 pub use fault::RecordFault;
 pub use frame::kind_of;
+pub use reader::read_costs;
+pub use reader::read_marks;
+pub use reader::read_scores;
