@@ -90,32 +90,32 @@ pub read-frame : {K : Type 0} (f : Format K) (l : Lengths) (file : List ℕ) (r 
 read-frame f l file r e weights sets frame answer = subst (λ x. Frame-read f l file x r weights weights sets sets) (sym frame) (answer, refl, refl)
 
 module _ {K : Type 0} (f : Format K) (l : Lengths) (file : List ℕ) (n : ℕ) (r : Result (Sheet K) FileFault) (weights : List K) (sets sets′ : List ℕ) (frame : frame-words (f .kind) (f .width) file ≡ Ok n) where
-    pub read-opening : (e : Refusal) → open-check n l ≡ Some e → sets′ ≡ sets → r ≡ Err (Sheet-fault e) → Read-as f l file r weights weights sets sets′
-    read-opening e opening kept answer =
-        subst (λ x. Frame-read f l file x r weights weights sets sets′) (sym frame)
-        (subst (λ x. Opening-read f n file x r weights weights sets sets′) (sym opening) (answer, refl, kept))
+  pub read-opening : (e : Refusal) → open-check n l ≡ Some e → sets′ ≡ sets → r ≡ Err (Sheet-fault e) → Read-as f l file r weights weights sets sets′
+  read-opening e opening kept answer =
+      subst (λ x. Frame-read f l file x r weights weights sets sets′) (sym frame)
+      (subst (λ x. Opening-read f n file x r weights weights sets sets′) (sym opening) (answer, refl, kept))
 
-    module _ (opening : open-check n l ≡ None) (opened : Holds n no-arcs weights weights sets sets′) (weights″ : List K) (sets″ : List ℕ) where
-        to-records : Records-read f n file (records-check f n file 0 (record-count (f .width) file)) r weights weights″ sets sets″ → Read-as f l file r weights weights″ sets sets″
-        to-records h =
-            subst (λ x. Frame-read f l file x r weights weights″ sets sets″) (sym frame)
-            (subst (λ x. Opening-read f n file x r weights weights″ sets sets″) (sym opening) h)
+  module _ (opening : open-check n l ≡ None) (opened : Holds n no-arcs weights weights sets sets′) (weights″ : List K) (sets″ : List ℕ) where
+    to-records : Records-read f n file (records-check f n file 0 (record-count (f .width) file)) r weights weights″ sets sets″ → Read-as f l file r weights weights″ sets sets″
+    to-records h =
+        subst (λ x. Frame-read f l file x r weights weights″ sets sets″) (sym frame)
+        (subst (λ x. Opening-read f n file x r weights weights″ sets sets″) (sym opening) h)
 
-        pub read-refused : (e : RecordFault) → records-check f n file 0 (record-count (f .width) file) ≡ Some e → Holds n no-arcs weights weights″ sets′ sets″ → r ≡ Err (Record e) → Read-as f l file r weights weights″ sets sets″
-        read-refused e fault holds answer =
-            let all : Holds n no-arcs weights weights″ sets sets″ =
-            record { standing = holds .standing; weights-beyond = holds .weights-beyond; sets-beyond = holds .sets-beyond ∙ opened .sets-beyond } in
-            to-records (subst (λ x. Records-read f n file x r weights weights″ sets sets″) (sym fault) (answer, all))
+    pub read-refused : (e : RecordFault) → records-check f n file 0 (record-count (f .width) file) ≡ Some e → Holds n no-arcs weights weights″ sets′ sets″ → r ≡ Err (Record e) → Read-as f l file r weights weights″ sets sets″
+    read-refused e fault holds answer =
+        let all : Holds n no-arcs weights weights″ sets sets″ =
+        record { standing = holds .standing; weights-beyond = holds .weights-beyond; sets-beyond = holds .sets-beyond ∙ opened .sets-beyond } in
+        to-records (subst (λ x. Records-read f n file x r weights weights″ sets sets″) (sym fault) (answer, all))
 
-        pub read-done : (s : Sheet K) → records-check f n file 0 (record-count (f .width) file) ≡ None → Holds n (put-records f file 0 (record-count (f .width) file) (arcs-in n weights sets′)) weights weights″ sets′ sets″ → s .words ≡ n → r ≡ Ok s → Read-as f l file r weights weights″ sets sets″
-        read-done s fault holds words answer =
-            let count = record-count (f .width) file in
-            let all : Holds n (put-records f file 0 count no-arcs) weights weights″ sets sets″ =
-            record {
-              standing = λ h d. holds .standing h d ∙ same-puts f file 0 count (arcs-in n weights sets′) no-arcs (opened .standing) h d;
-              weights-beyond = holds .weights-beyond;
-              sets-beyond = holds .sets-beyond ∙ opened .sets-beyond;
-            } in
-            to-records
-            (subst (λ x. Records-read f n file x r weights weights″ sets sets″) (sym fault)
-            (subst (λ x. Records-read f n file None x weights weights″ sets sets″) (sym answer) (refl, words, all)))
+    pub read-done : (s : Sheet K) → records-check f n file 0 (record-count (f .width) file) ≡ None → Holds n (put-records f file 0 (record-count (f .width) file) (arcs-in n weights sets′)) weights weights″ sets′ sets″ → s .words ≡ n → r ≡ Ok s → Read-as f l file r weights weights″ sets sets″
+    read-done s fault holds words answer =
+        let count = record-count (f .width) file in
+        let all : Holds n (put-records f file 0 count no-arcs) weights weights″ sets sets″ =
+        record {
+          standing = λ h d. holds .standing h d ∙ same-puts f file 0 count (arcs-in n weights sets′) no-arcs (opened .standing) h d;
+          weights-beyond = holds .weights-beyond;
+          sets-beyond = holds .sets-beyond ∙ opened .sets-beyond;
+        } in
+        to-records
+        (subst (λ x. Records-read f n file x r weights weights″ sets sets″) (sym fault)
+        (subst (λ x. Records-read f n file None x weights weights″ sets sets″) (sym answer) (refl, words, all)))

@@ -114,37 +114,37 @@ left-all f n file count weights sets =
     }
 
 module _ {K : Type 0} (f : Format K) (n : ℕ) (file : List ℕ) (count k : ℕ) (weights weights′ : List K) (sets sets′ : List ℕ) (left : Left f n file count k weights weights′ sets sets′) where
-    pub left-more : (weights″ : List K) (sets″ : List ℕ) (r : Result (Unit {0}) RecordFault) → k < count → Told (record-check f n file k) r ((weights″ ≡ weights′) × (sets″ ≡ sets′)) (Holds n (put-record f file k (arcs-in n weights′ sets′)) weights′ weights″ sets′ sets″) → isOk r ≡ true → Left f n file count (k + 1) weights weights″ sets sets″
-    left-more weights″ sets″ r lt told ok =
-        let p = told-ok ((weights″ ≡ weights′) × (sets″ ≡ sets′)) (Holds n (put-record f file k (arcs-in n weights′ sets′)) weights′ weights″ sets′ sets″) (record-check f n file k) r told ok in
-        let holds : Holds n (put-record f file k (arcs-in n weights′ sets′)) weights′ weights″ sets′ sets″ = p .1 in
-        record {
-          check = sym (check-more f n file k count lt ∙ ap (λ q. first-of q (records-check f n file (k + 1) (count - (k + 1)))) (p .0)) ∙ left .check;
-          puts = λ h d.
-              same-puts f file (k + 1) (count - (k + 1)) (arcs-in n weights″ sets″) (put-record f file k (arcs-in n weights′ sets′)) (holds .standing) h d
-              ∙ sym (ap (λ (a : Arcs K). a h d) (puts-more f file k count (arcs-in n weights′ sets′) lt))
-              ∙ left .puts h d;
-          beyond = record { weights-beyond = holds .weights-beyond ∙ left .beyond .weights-beyond; sets-beyond = holds .sets-beyond ∙ left .beyond .sets-beyond };
-        }
+  pub left-more : (weights″ : List K) (sets″ : List ℕ) (r : Result (Unit {0}) RecordFault) → k < count → Told (record-check f n file k) r ((weights″ ≡ weights′) × (sets″ ≡ sets′)) (Holds n (put-record f file k (arcs-in n weights′ sets′)) weights′ weights″ sets′ sets″) → isOk r ≡ true → Left f n file count (k + 1) weights weights″ sets sets″
+  left-more weights″ sets″ r lt told ok =
+      let p = told-ok ((weights″ ≡ weights′) × (sets″ ≡ sets′)) (Holds n (put-record f file k (arcs-in n weights′ sets′)) weights′ weights″ sets′ sets″) (record-check f n file k) r told ok in
+      let holds : Holds n (put-record f file k (arcs-in n weights′ sets′)) weights′ weights″ sets′ sets″ = p .1 in
+      record {
+        check = sym (check-more f n file k count lt ∙ ap (λ q. first-of q (records-check f n file (k + 1) (count - (k + 1)))) (p .0)) ∙ left .check;
+        puts = λ h d.
+            same-puts f file (k + 1) (count - (k + 1)) (arcs-in n weights″ sets″) (put-record f file k (arcs-in n weights′ sets′)) (holds .standing) h d
+            ∙ sym (ap (λ (a : Arcs K). a h d) (puts-more f file k count (arcs-in n weights′ sets′) lt))
+            ∙ left .puts h d;
+        beyond = record { weights-beyond = holds .weights-beyond ∙ left .beyond .weights-beyond; sets-beyond = holds .sets-beyond ∙ left .beyond .sets-beyond };
+      }
 
-    pub left-refused : (D : Type 0) (weights″ : List K) (sets″ : List ℕ) (r : Result (Unit {0}) RecordFault) → k < count → Told (record-check f n file k) r ((weights″ ≡ weights′) × (sets″ ≡ sets′)) (Holds n (put-record f file k (arcs-in n weights′ sets′)) weights′ weights″ sets′ sets″) → isErr r ≡ true → Told (records-check f n file 0 count) r (Kept-beyond n weights weights″ sets sets″) D
-    left-refused D weights″ sets″ (Ok u) lt told never = absurd (err-not-ok never)
-    left-refused D weights″ sets″ (Err e) lt told is-err =
-        let p = told-err {T = Unit {0}} ((weights″ ≡ weights′) × (sets″ ≡ sets′)) (Holds n (put-record f file k (arcs-in n weights′ sets′)) weights′ weights″ sets′ sets″) (record-check f n file k) (Err e) e told refl in
-        let all : Some e ≡ records-check f n file 0 count = sym (check-more f n file k count lt ∙ ap (λ q. first-of q (records-check f n file (k + 1) (count - (k + 1)))) (p .0)) ∙ left .check in
-        let kept : Kept-beyond n weights weights″ sets sets″ =
-        record {
-          weights-beyond = ap (drop (n * (n + 1))) (p .1 .0) ∙ left .beyond .weights-beyond;
-          sets-beyond = ap (drop n) (p .1 .1) ∙ left .beyond .sets-beyond;
-        } in
-        subst (λ q. Told {T = Unit {0}} q (Err e) (Kept-beyond n weights weights″ sets sets″) D) all (refl, kept)
+  pub left-refused : (D : Type 0) (weights″ : List K) (sets″ : List ℕ) (r : Result (Unit {0}) RecordFault) → k < count → Told (record-check f n file k) r ((weights″ ≡ weights′) × (sets″ ≡ sets′)) (Holds n (put-record f file k (arcs-in n weights′ sets′)) weights′ weights″ sets′ sets″) → isErr r ≡ true → Told (records-check f n file 0 count) r (Kept-beyond n weights weights″ sets sets″) D
+  left-refused D weights″ sets″ (Ok u) lt told never = absurd (err-not-ok never)
+  left-refused D weights″ sets″ (Err e) lt told is-err =
+      let p = told-err {T = Unit {0}} ((weights″ ≡ weights′) × (sets″ ≡ sets′)) (Holds n (put-record f file k (arcs-in n weights′ sets′)) weights′ weights″ sets′ sets″) (record-check f n file k) (Err e) e told refl in
+      let all : Some e ≡ records-check f n file 0 count = sym (check-more f n file k count lt ∙ ap (λ q. first-of q (records-check f n file (k + 1) (count - (k + 1)))) (p .0)) ∙ left .check in
+      let kept : Kept-beyond n weights weights″ sets sets″ =
+      record {
+        weights-beyond = ap (drop (n * (n + 1))) (p .1 .0) ∙ left .beyond .weights-beyond;
+        sets-beyond = ap (drop n) (p .1 .1) ∙ left .beyond .sets-beyond;
+      } in
+      subst (λ q. Told {T = Unit {0}} q (Err e) (Kept-beyond n weights weights″ sets sets″) D) all (refl, kept)
 
-    pub left-done : (U : Type 0) → count ≤ k → Told (records-check f n file 0 count) (Ok (tt {0})) U (Holds n (put-records f file 0 count (arcs-in n weights sets)) weights weights′ sets sets′)
-    left-done U le =
-        let holds : Holds n (put-records f file 0 count (arcs-in n weights sets)) weights weights′ sets sets′ =
-        record {
-          standing = λ h d. sym (ap (λ (a : Arcs K). a h d) (puts-none f file k count (arcs-in n weights′ sets′) le)) ∙ left .puts h d;
-          weights-beyond = left .beyond .weights-beyond;
-          sets-beyond = left .beyond .sets-beyond;
-        } in
-        subst (λ q. Told q (Ok (tt {0})) U (Holds n (put-records f file 0 count (arcs-in n weights sets)) weights weights′ sets sets′)) (sym (check-none f n file k count le) ∙ left .check) (refl, holds)
+  pub left-done : (U : Type 0) → count ≤ k → Told (records-check f n file 0 count) (Ok (tt {0})) U (Holds n (put-records f file 0 count (arcs-in n weights sets)) weights weights′ sets sets′)
+  left-done U le =
+      let holds : Holds n (put-records f file 0 count (arcs-in n weights sets)) weights weights′ sets sets′ =
+      record {
+        standing = λ h d. sym (ap (λ (a : Arcs K). a h d) (puts-none f file k count (arcs-in n weights′ sets′) le)) ∙ left .puts h d;
+        weights-beyond = left .beyond .weights-beyond;
+        sets-beyond = left .beyond .sets-beyond;
+      } in
+      subst (λ q. Told q (Ok (tt {0})) U (Holds n (put-records f file 0 count (arcs-in n weights sets)) weights weights′ sets sets′)) (sym (check-none f n file k count le) ∙ left .check) (refl, holds)

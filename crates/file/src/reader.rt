@@ -38,12 +38,7 @@ use weight::ScoreKind;
 use weight::ScoreOpens;
 
 // The number of words of a file whose kind was told.
-fn words_told(
-    file: &[u8],
-    told: FileKind,
-    kind: FileKind,
-    width: usize,
-) -> Result<usize, FileFault>
+fn words_told(file: &[u8], told: FileKind, kind: FileKind, width: usize) -> Result<usize, FileFault>
     requires long { ⌜ 5 ≤ length (now file) ⌝ }
     requires narrow { ⌜ width ≤ 5 ⌝ }
     ensures { λ r. ⌜ r ≡ words-told kind width (now (file .entry)) told ⌝ }
@@ -70,6 +65,15 @@ fn frame_words<K: Recorded>(file: &[u8]) -> Result<usize, FileFault>
     words_told(file, told, K::file_kind(), K::bytes())
 }
 
+// How many records a file has.
+fn record_count(file: &[u8], width: usize) -> usize
+    requires long { ⌜ 5 ≤ length (now file) ⌝ }
+    requires narrow { ⌜ width ≤ 5 ⌝ }
+    ensures { λ r. ⌜ r ≡ record-count width (now (file .entry)) ⌝ }
+{
+    (file.len() - 5) / (width + 2)
+}
+
 // Puts all records of a file on a sheet that was just opened. A record that is refused leaves every arc absent.
 fn fill<K: Recorded + Copy>(
     sheet: &Sheet<K>,
@@ -87,7 +91,7 @@ fn fill<K: Recorded + Copy>(
     requires long { ⌜ 5 ≤ length (now file) ⌝ }
     ensures { λ r. ⌜ Told (records-check (format-of (K·Recorded .kind) (K·Recorded .width) (K·Recorded .decoded) (K·Kind .ranges) (K·Kind .worth)) words (now (file .entry)) 0 (record-count (K·Recorded .width) (now (file .entry)))) r (Holds words no-arcs (now (weights .entry)) (now (weights .exit)) (now (sets .entry)) (now (sets .exit))) (Holds words (put-records (format-of (K·Recorded .kind) (K·Recorded .width) (K·Recorded .decoded) (K·Kind .ranges) (K·Kind .worth)) (now (file .entry)) 0 (record-count (K·Recorded .width) (now (file .entry))) (arcs-in words (now (weights .entry)) (now (sets .entry)))) (now (weights .entry)) (now (weights .exit)) (now (sets .entry)) (now (sets .exit))) ⌝ }
 {
-    let count = (file.len() - 5) / (K::bytes() + 2);
+    let count = record_count(file, K::bytes());
     match put_records(sheet, weights, sets, file, count) {
         Ok(()) => Ok(()),
         Err(fault) => {
@@ -111,7 +115,17 @@ fn read<K: Recorded + Copy>(
 {
     let words = frame_words::<K>(file)?;
     let sheet = open(words, weights, sets, candidates, nodes, merges, potentials)?;
-    fill(&sheet, words, file, weights, sets, candidates, nodes, merges, potentials)?;
+    fill(
+        &sheet,
+        words,
+        file,
+        weights,
+        sets,
+        candidates,
+        nodes,
+        merges,
+        potentials,
+    )?;
     Ok(sheet)
 }
 
@@ -127,7 +141,7 @@ pub fn read_scores(
 ) -> Result<Sheet<Score>, FileFault>
     ensures { λ r. ⌜ Read-as score-format (record { weights = length (now (weights .entry)); sets = length (now (sets .entry)); candidates = length (now (candidates .entry)); nodes = length (now (nodes .entry)); merges = length (now (merges .entry)); potentials = length (now (potentials .entry)) }) (now (file .entry)) r (now (weights .entry)) (now (weights .exit)) (now (sets .entry)) (now (sets .exit)) ⌝ }
 {
-    read(file, weights, sets, candidates, nodes, merges, potentials)
+    read::<Score>(file, weights, sets, candidates, nodes, merges, potentials)
 }
 
 // Reads a file of costs.
@@ -142,7 +156,7 @@ pub fn read_costs(
 ) -> Result<Sheet<Cost>, FileFault>
     ensures { λ r. ⌜ Read-as cost-format (record { weights = length (now (weights .entry)); sets = length (now (sets .entry)); candidates = length (now (candidates .entry)); nodes = length (now (nodes .entry)); merges = length (now (merges .entry)); potentials = length (now (potentials .entry)) }) (now (file .entry)) r (now (weights .entry)) (now (weights .exit)) (now (sets .entry)) (now (sets .exit)) ⌝ }
 {
-    read(file, weights, sets, candidates, nodes, merges, potentials)
+    read::<Cost>(file, weights, sets, candidates, nodes, merges, potentials)
 }
 
 // Reads a file of marks over scores.
@@ -157,5 +171,5 @@ pub fn read_marks(
 ) -> Result<Sheet<Mark<Score>>, FileFault>
     ensures { λ r. ⌜ Read-as mark-format (record { weights = length (now (weights .entry)); sets = length (now (sets .entry)); candidates = length (now (candidates .entry)); nodes = length (now (nodes .entry)); merges = length (now (merges .entry)); potentials = length (now (potentials .entry)) }) (now (file .entry)) r (now (weights .entry)) (now (weights .exit)) (now (sets .entry)) (now (sets .exit)) ⌝ }
 {
-    read(file, weights, sets, candidates, nodes, merges, potentials)
+    read::<Mark<Score>>(file, weights, sets, candidates, nodes, merges, potentials)
 }

@@ -69,8 +69,7 @@ fn put_record<K: Recorded + Copy>(
         file[at] as usize,
         file[at + 1] as usize,
         weight,
-    )
-        .in_record(number, at)
+    ).in_record(number, at)
 }
 
 // Puts the first records on the sheet, so many, up to one that is refused.
