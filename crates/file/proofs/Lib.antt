@@ -2,3 +2,4 @@ mod Bytes
 mod Steps
 mod Frames
 mod Fills
+mod Lasts

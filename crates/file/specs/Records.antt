@@ -1,10 +1,10 @@
 -- The records of a file, put on the sheet one by one.
-use Prim.Native.Nat.{ℕ, zero, suc, _+_, _*_}
+use Prim.Native.Nat.{ℕ, zero, suc, _+_, _*_, _<_}
 use Rattle.file.specs.Formats.{Format}
 use Rattle.file.specs.declared.fault.RecordFault.{RecordFault}
 use Rattle.refusal.specs.declared.Refusal.the-variants.{WordCount, ShortMemory, NoDependent, HeadAbove, SelfLoop, NoEntry, AbsentArc, NoTree, NoMore, Fifty, ShortSpace, NotATree}
 use Rattle.refusal.specs.declared.Refusal.{Refusal}
-use Rattle.sheet.specs.Arcs.{Arcs, with-arc}
+use Rattle.sheet.specs.Arcs.{Arcs, named, no-arcs, with-arc}
 use Rattle.sheet.specs.Calls.{arc-check, or-else, refuse-if}
 use Rattle.std.specs.Results.{isOk}
 use Rattle.std.specs.declared.option.Option.the-variants.{Some, None}
@@ -12,7 +12,7 @@ use Rattle.std.specs.declared.option.Option.{Option}
 use Rattle.std.specs.declared.result.Result.the-variants.{Ok, Err}
 use Rattle.std.specs.declared.result.Result.{Result}
 use lib.ListN.{getD, drop}
-use mathlib.Core.Bool.{Bool, true, not}
+use mathlib.Core.Bool.{Bool, true, false, not}
 use mathlib.Core.List.{List}
 use mathlib.Core.Path.{_≡_}
 
@@ -67,6 +67,16 @@ records-check f n file k (suc left) = first-of (record-check f n file k) (record
 abbrev pub put-records : {K : Type 0} → Format K → List ℕ → ℕ → ℕ → Arcs K → Arcs K
 put-records f file k zero arcs = arcs
 put-records f file k (suc left) arcs = put-records f file (k + 1) left (put-record f file k arcs)
+
+-- record k names the arc from h to d
+abbrev pub names : {K : Type 0} → Format K → List ℕ → ℕ → ℕ → ℕ → Bool
+names f file k h d = named (getD file (record-place (f .width) k) 0) (getD file (record-place (f .width) k + 1) 0) h d
+
+-- after all puts an arc stands with the weight of the last record that names it, and is absent where none does
+pub record Last-stands {K : Type 0} (f : Format K) : Type 0 where
+  pub last :
+      (file : List ℕ) (count j h d : ℕ) → j < count → names f file j h d ≡ true → ((i : ℕ) → j < i → i < count → names f file i h d ≡ false) → put-records f file 0 count no-arcs h d ≡ Some (f .weight-at file (record-place (f .width) j + 2))
+  pub absent : (file : List ℕ) (count h d : ℕ) → ((i : ℕ) → i < count → names f file i h d ≡ false) → put-records f file 0 count no-arcs h d ≡ None
 
 -- a put's refusal as the record's fault
 abbrev pub recorded : ℕ → ℕ → Result (Unit {0}) Refusal → Result (Unit {0}) RecordFault

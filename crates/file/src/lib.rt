@@ -11,6 +11,7 @@ pub use fault::FileFaultFromRefusal;
 pub use fault::FileKind;
 pub use fault::RecordFault;
 pub use frame::kind_of;
+pub use reader::last_stands;
 pub use reader::read_costs;
 pub use reader::read_marks;
 pub use reader::read_scores;

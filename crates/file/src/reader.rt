@@ -2,7 +2,7 @@
 ghost use Prim.Native.Nat.{ℕ, _+_, _≤_};
 ghost use Rattle.file.specs.Formats.{cost-format, format-of, mark-format, score-format};
 ghost use Rattle.file.specs.Reading.{frame-words, Read-as, record-count, words-told};
-ghost use Rattle.file.specs.Records.{put-records, records-check, Told};
+ghost use Rattle.file.specs.Records.{Last-stands, put-records, records-check, Told};
 ghost use Rattle.sheet.specs.Arcs.{arcs-in, no-arcs};
 ghost use Rattle.sheet.specs.Calls.{Holds, open-check};
 ghost use Rattle.std.specs.Vec.{made};
@@ -173,3 +173,10 @@ pub fn read_marks(
 {
     read::<Mark<Score>>(file, weights, sets, candidates, nodes, merges, potentials)
 }
+
+// After the puts of an accepted file an arc stands with the weight of the last record that names it.
+pub fn last_stands()
+    ensures scores { λ _. ⌜ Last-stands score-format ⌝ }
+    ensures costs { λ _. ⌜ Last-stands cost-format ⌝ }
+    ensures marks { λ _. ⌜ Last-stands mark-format ⌝ }
+{}
