@@ -1,0 +1,4 @@
+// Damaged files: what the readers tell is what a plain reading of the bytes tells.
+#[cfg(test)]
+mod damaged;
+mod plain;
