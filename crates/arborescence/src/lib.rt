@@ -1,4 +1,6 @@
 // Why a search by merged sets of words finds a heaviest arborescence, and by a place in front a heaviest single-root tree.
+#![tactic(auto)]
+
 ghost use Rattle.arborescence.specs.Bounds.{SizedMerge};
 ghost use Rattle.arborescence.specs.Heads.{Single, BestSingle};
 ghost use Rattle.arborescence.specs.Search.{None, GoodStart, GoodMerge, BestTree, Kept};

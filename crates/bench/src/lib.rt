@@ -1,4 +1,6 @@
 // What tests of rankings work with: memory for forty words, a plain record of what stands on a sheet, and random numbers.
+#![tactic(auto)]
+
 mod memory;
 mod numbers;
 mod plain;

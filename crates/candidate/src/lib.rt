@@ -1,4 +1,6 @@
 // The records in which trees wait to be handed out.
+#![tactic(auto)]
+
 ghost use Rattle.candidate.specs.Views.{outranking};
 ghost use Rattle.std.specs.Prelude.{◌≡◌, replicate};
 ghost use Rattle.candidate.specs.Orders;

@@ -1,4 +1,6 @@
 // Why a ranking skips no tree: the trees of a sheet are parted into cells, and each is accounted for at every step.
+#![tactic(auto)]
+
 ghost use Rattle.cells.specs.Cells.{Parts};
 ghost use Rattle.cells.specs.Kept.{KeptTrees, SubSearched};
 ghost use Rattle.cells.specs.Slots.{AllSlotSteps};

@@ -1,4 +1,6 @@
 // A sheet's file: what kind it is of, and a reader for each kind.
+#![tactic(auto)]
+
 mod fault;
 mod format;
 mod frame;

@@ -1,6 +1,8 @@
 // The lines that tell a ranking: one for each tree and a last one, or a single one for a refused file.
 // Each call writes to the front of the space and returns the length of the line;
 // too short a space is refused and left as it was.
+#![tactic(auto)]
+
 ghost use Rattle.lines.specs.Lines.{tree_text, last_text, refused_text, ToldFields};
 ghost use Rattle.text.specs.Space.{Placed};
 

@@ -1,5 +1,7 @@
 // A kind of weight that is none of the product's, to show what a new kind owes: the five rules and nothing else.
 // It has two places of different ranges, −5 to 5 and 0 to 1000.
+#![tactic(auto)]
+
 ghost use Rattle.std.specs.Prelude.{◌≡◌, [], ◌∷◌, pos, neg_ℤ, refl};
 ghost use Rattle.std.proofs.Common.{lit≤};
 ghost use Rattle.std.specs.Int.Signed.{le_z_yes};

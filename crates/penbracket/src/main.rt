@@ -1,4 +1,6 @@
 // Draws trees in brackets: reads lines of heads, and prints each step for each line.
+#![tactic(auto)]
+
 ghost use Rattle.penbracket.specs.Drawing.{Told};
 ghost use Rattle.std.specs.Prelude.{IfOk};
 

@@ -1,5 +1,7 @@
 // Reads the file of a sheet from standard input, and prints each step: its kind, its words, its records, and the arcs that
 // stand in the end; or the refusal with its number and byte place.
+#![tactic(auto)]
+
 use file::{FileFault, FileKind, kind_of, read_costs, read_marks, read_scores};
 use lines::refused_line;
 use search::Node;

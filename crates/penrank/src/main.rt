@@ -1,5 +1,7 @@
 // Reads the file of a sheet from standard input and writes the ranking of its trees: one line for each tree, the heaviest
 // first, and a last line that tells why there is no further; or the one line of a refused file.
+#![tactic(auto)]
+
 ghost use Rattle.penrank.specs.Ends.{Ends};
 ghost use Rattle.std.specs.Prelude.{◌≡◌, IfOk, vec_len};
 

@@ -1,6 +1,8 @@
 // Reads a script of calls on sheets of scores from standard input, one call a line, makes the calls, and prints each with its
 // answer. A line is `open N`, `put H D W`, `strike H D`, `begin`, `take`, `take S` or `end`: N words, head H, dependent D, score
 // W, S bytes of space. Every `open` starts a new sheet.
+#![tactic(auto)]
+
 ghost use Rattle.pentrace.specs.Orders.{Said};
 ghost use Rattle.pentrace.specs.Script.{calls_in};
 ghost use Rattle.pentrace.specs.Texts.{CallText, ending_text, refusal_text, which_ranking};

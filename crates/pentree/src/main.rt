@@ -1,5 +1,7 @@
 // Finds the heaviest tree of a line with scores: reads lines of numbers, and prints each step.
 // A line is the number of words, then head, dependent and score of each arc.
+#![tactic(auto)]
+
 use reading::read_spaced;
 use refusal::Refusal;
 use search::{Node, best_tree};

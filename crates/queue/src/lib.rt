@@ -3,6 +3,8 @@
 // The list is the first `len` of the slots; the caller keeps the length. The element at k + 1 has its parent at k / 2,
 // and in heap order no element outranks its parent. Nothing is asked of the slots: on any contents every call is safe,
 // and moves elements only; where the list was in heap order, it still is, and the one handed out is a greatest one.
+#![tactic(auto)]
+
 ghost use Rattle.std.specs.Prelude.{◌≡◌, ℕ, ◌+◌, ◌-◌, ◌*◌, ◌<◌, ◌≤◌, Bool, false, ◌∷◌, length, take, MatchResult, slice_index_or};
 ghost use Rattle.queue.specs.Calls.{Pushed, Popped, Dropped, PushRefused, PopRefused, DropRefused};
 ghost use Rattle.queue.specs.Heap.{Ordered, Greatest, Least, Rising, Sinking, Highest, Lowest};

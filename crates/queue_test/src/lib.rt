@@ -1,5 +1,7 @@
 // A caller of the waiting list, whose elements are records with an array in them, and long runs of the list beside a
 // plain sorted one.
+#![tactic(auto)]
+
 ghost use Rattle.queue_test.specs.Weights.{HeaviestFirst};
 ghost use Rattle.std.specs.List.Sorted.{IsPermutation};
 ghost use Rattle.std.specs.Prelude.{◌≡◌, length, MatchResult, nat_lt};

@@ -1,5 +1,7 @@
 // Ranks lines of 40 words on which every arc stands, with random scores, so that the cost of takes can be counted.
 // The two numbers on standard input say how many lines are ranked, and how many trees are taken of each.
+#![tactic(auto)]
+
 use candidate::Candidate;
 use ranking::{begin, end, take};
 use reading::read_spaced;

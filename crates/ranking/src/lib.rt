@@ -1,4 +1,6 @@
 // The ranking of a sheet's trees: each take hands out the heaviest that is still untaken, up to fifty.
+#![tactic(auto)]
+
 ghost use Rattle.std.specs.Prelude.{◌≡◌, ℕ, suc, ◌<◌, ◌≤◌, List, [], length, take, drop, if◌then◌else◌, MatchResult, nat_eq, slice_set};
 ghost use Rattle.ranking.specs.Calls.{take_check, Took};
 ghost use Rattle.ranking.specs.Memory.{Memory, HoldsArcs, HoldsTrees, StandsFor};

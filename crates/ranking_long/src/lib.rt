@@ -1,4 +1,6 @@
 // Rankings of long lines, of sheets whose trees are known, and in runs of random calls.
+#![tactic(auto)]
+
 #[cfg(test)]
 mod known;
 #[cfg(test)]

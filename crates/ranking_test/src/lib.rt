@@ -1,4 +1,6 @@
 // Rankings of small random sheets beside an enumeration of all lists of heads.
+#![tactic(auto)]
+
 #[cfg(test)]
 mod drawing;
 #[cfg(test)]

@@ -1,4 +1,6 @@
 // Lines of numbers, as people and programs write them.
+#![tactic(auto)]
+
 ghost use Rattle.reading.specs.Reading.{with_digit};
 ghost use Rattle.reading.specs.Spaced.{Spells, SpellsNone, SpelledOnce};
 ghost use Rattle.std.specs.Prelude.{◌≡◌, ◌≤◌, IfOk, MatchOption};

@@ -1,4 +1,6 @@
 // Why a call is refused. Each reason has a number of its own, which never changes.
+#![tactic(auto)]
+
 ghost use Rattle.refusal.specs.Refusals.{number_of, ToldApart};
 ghost use Rattle.std.specs.Prelude.{◌≡◌};
 

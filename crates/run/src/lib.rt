@@ -1,4 +1,6 @@
 // Runs of calls: a list of calls on a fresh sheet, each with its answer.
+#![tactic(auto)]
+
 ghost use Rattle.std.specs.Prelude.{◌≡◌, ℕ, ◌<◌, ◌≤◌, List, length, slice_set};
 ghost use Rattle.ranking.specs.Memory.{Memory};
 ghost use Rattle.candidate.specs.declared.Candidate.{Candidate};

@@ -1,4 +1,6 @@
 // The search beside an enumeration of all lists of heads, and on lines whose heaviest tree is known.
+#![tactic(auto)]
+
 #[cfg(test)]
 mod enumerated;
 #[cfg(test)]

@@ -1,5 +1,7 @@
 // Searches lines of 40 words on which every arc stands, with random scores, so that the search's cost can be counted.
 // It draws 200 lines, and searches as many of them as the number on standard input says.
+#![tactic(auto)]
+
 use reading::read_spaced;
 use search::{Node, best_tree};
 use std::io;

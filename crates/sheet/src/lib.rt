@@ -1,4 +1,6 @@
 // A sheet: which arcs of a line stand, each with its weight, in memory that the caller lends.
+#![tactic(auto)]
+
 ghost use Rattle.std.specs.Prelude.{◌≡◌, ◌<◌, ◌≤◌, length, replicate, is_some, IfOk, Some, None, slice_set};
 ghost use Rattle.sheet.specs.Arcs.{arcs_in, no_arcs, with_arc};
 ghost use Rattle.sheet.specs.Calls.{Answered, arc_check, ends_check, Holds, memory_check, open_check, put_check, strike_check, too_short};

@@ -1,4 +1,6 @@
 // Dependency trees as lists of heads: `heads[w - 1]` is the head of word w, and 0 the root.
+#![tactic(auto)]
+
 mod brackets;
 mod check;
 mod cycle;

@@ -1,4 +1,6 @@
 // Weights of arcs. A kind of weight gives each value a worth, a list of whole numbers; everything above speaks of worths alone.
+#![tactic(auto)]
+
 ghost use Rattle.std.specs.Prelude.{◌≡◌, ℕ, ◌≤◌, List, length};
 ghost use Rattle.weight.specs.Worth.{Worth, zeros, SumIs, DifferenceIs, at_most, order, WorthLaws, OrderLaws, BoundLaws};
 ghost use Rattle.weight.specs.Range.{Range, Ranged, entry_in, EntryWithin};

@@ -1,5 +1,7 @@
 // Sets of words as the bits of a number: bit w is up where word w is in the set. Bit 0 is the root's.
 // A set has room for the words up to 63.
+#![tactic(auto)]
+
 ghost use Rattle.std.specs.Prelude.{◌≡◌, ℕ, ◌<◌, not, ◌&&◌, ◌||◌, ◌==◌, nat_lt};
 ghost use Rattle.word_set.specs.Bits.{in_set};
 
