@@ -39,7 +39,7 @@ pub enum Refused {
 
 // Puts x into the list, and gives the list's new length.
 pub fn push<T: Ranked + Copy>(slots: &mut [T], len: usize, x: T) -> Result<usize, Refused>
-    ensures { MatchResult result (λ n. Pushed above slots.old len x slots.new n) (λ e. PushRefused (length slots.old) len e × (slots.new ≡ slots.old)) }
+    ensures { MatchResult result (λ n. Pushed T.above slots.old len x slots.new n) (λ e. PushRefused (length slots.old) len e × (slots.new ≡ slots.old)) }
 {
     if slots.len() < len {
         return Err(Refused::BeyondSlots);
@@ -53,7 +53,7 @@ pub fn push<T: Ranked + Copy>(slots: &mut [T], len: usize, x: T) -> Result<usize
 
 // Takes a greatest element out of the list, whose length is then `len - 1`.
 pub fn pop<T: Ranked + Copy>(slots: &mut [T], len: usize) -> Result<T, Refused>
-    ensures { MatchResult result (λ x. Popped above slots.old len slots.new x) (λ e. PopRefused (length slots.old) len e × (slots.new ≡ slots.old)) }
+    ensures { MatchResult result (λ x. Popped T.above slots.old len slots.new x) (λ e. PopRefused (length slots.old) len e × (slots.new ≡ slots.old)) }
 {
     if slots.len() < len {
         return Err(Refused::BeyondSlots);
@@ -66,7 +66,7 @@ pub fn pop<T: Ranked + Copy>(slots: &mut [T], len: usize) -> Result<T, Refused>
 
 // Puts x into the list and drops a least element of those and x, which it gives: the list stays as long as it was.
 pub fn push_drop_least<T: Ranked + Copy>(slots: &mut [T], len: usize, x: T) -> Result<T, Refused>
-    ensures { MatchResult result (λ y. Dropped above slots.old len x slots.new y) (λ e. DropRefused (length slots.old) len e × (slots.new ≡ slots.old)) }
+    ensures { MatchResult result (λ y. Dropped T.above slots.old len x slots.new y) (λ e. DropRefused (length slots.old) len e × (slots.new ≡ slots.old)) }
 {
     if len <= slots.len() {
         return Ok(keep_higher(&mut slots[0..len], x));
@@ -77,7 +77,7 @@ pub fn push_drop_least<T: Ranked + Copy>(slots: &mut [T], len: usize, x: T) -> R
 // Pushes the given elements, in the order in which they stand, into an empty list, and pops them all into `out`:
 // whatever that order was, they come out falling.
 pub fn rank<T: Ranked + Copy>(given: &[T], slots: &mut [T], out: &mut [T]) -> Result<(), Refused>
-    ensures { MatchResult result (λ _. CameOut above given.now slots.old out.old slots.new out.new) (λ e. RunRefused (length given.now) (length slots.old) (length out.old) e × (slots.new ≡ slots.old) × (out.new ≡ out.old)) }
+    ensures { MatchResult result (λ _. CameOut T.above given.now slots.old out.old slots.new out.new) (λ e. RunRefused (length given.now) (length slots.old) (length out.old) e × (slots.new ≡ slots.old) × (out.new ≡ out.old)) }
 {
     let n = given.len();
     if slots.len() < n || out.len() < n {
@@ -91,7 +91,7 @@ pub fn rank<T: Ranked + Copy>(given: &[T], slots: &mut [T], out: &mut [T]) -> Re
 // Pushes the given elements into an empty list, which they fill.
 fn push_all<T: Ranked + Copy>(heap: &mut [T], given: &[T]) -> Result<(), Refused>
     requires { length heap.old ≡ length given.now }
-    ensures { MatchResult result (λ _. IsPermutation given.now heap.new × Ordered above heap.new) (λ _. ⊥) }
+    ensures { MatchResult result (λ _. IsPermutation given.now heap.new × Ordered T.above heap.new) (λ _. ⊥) }
 {
     for (i, x) in given.iter().enumerate() {
         push(heap, i, *x)?;
@@ -102,7 +102,7 @@ fn push_all<T: Ranked + Copy>(heap: &mut [T], given: &[T]) -> Result<(), Refused
 // Pops every element of a full list into `out`.
 fn pop_all<T: Ranked + Copy>(heap: &mut [T], out: &mut [T]) -> Result<(), Refused>
     requires { length heap.old ≤ length out.old }
-    ensures { MatchResult result (λ _. Emptied above heap.old out.old heap.new out.new) (λ _. ⊥) }
+    ensures { MatchResult result (λ _. Emptied T.above heap.old out.old heap.new out.new) (λ _. ⊥) }
 {
     let n = heap.len();
     for i in 0..n {
@@ -114,7 +114,7 @@ fn pop_all<T: Ranked + Copy>(heap: &mut [T], out: &mut [T]) -> Result<(), Refuse
 // Whether the element at i outranks the one at j.
 fn outranks_at<T: Ranked>(heap: &[T], i: usize, j: usize) -> bool
     requires { (i < length heap.now) × (j < length heap.now) }
-    ensures { (d : T) → above (slice_index_or heap.now i d) (slice_index_or heap.now j d) ≡ result }
+    ensures { (d : T) → T.above (slice_index_or heap.now i d) (slice_index_or heap.now j d) ≡ result }
 {
     heap[i].outranks(&heap[j])
 }
@@ -122,7 +122,7 @@ fn outranks_at<T: Ranked>(heap: &[T], i: usize, j: usize) -> bool
 // Puts x into the first slot behind the list, and moves it up to its place in heap order.
 fn insert<T: Ranked + Copy>(slots: &mut [T], len: usize, x: T)
     requires { len < length slots.old }
-    ensures { Pushed above slots.old len x slots.new (len + 1) }
+    ensures { Pushed T.above slots.old len x slots.new (len + 1) }
 {
     slots[len] = x;
     sift_up(&mut slots[0..len + 1], len);
@@ -132,7 +132,7 @@ fn insert<T: Ranked + Copy>(slots: &mut [T], len: usize, x: T)
 fn sift_up<T: Ranked>(heap: &mut [T], mut i: usize)
     requires { i < length heap.old }
     ensures shuffled { IsPermutation heap.old heap.new }
-    ensures rises { Rising above heap.old i → Ordered above heap.new }
+    ensures rises { Rising T.above heap.old i → Ordered T.above heap.new }
 {
     while 0 < i && outranks_at(heap, i, (i - 1) / 2) {
         heap.swap((i - 1) / 2, i);
@@ -144,7 +144,7 @@ fn sift_up<T: Ranked>(heap: &mut [T], mut i: usize)
 fn higher_child<T: Ranked>(heap: &[T], i: usize) -> usize
     requires { i * 2 + 1 < length heap.now }
     ensures bound { (result < length heap.now) × (i * 2 + 1 ≤ result) × (result ≤ i * 2 + 2) }
-    ensures best { Highest above heap.now i result }
+    ensures best { Highest T.above heap.now i result }
 {
     let left = i * 2 + 1;
     if heap.len() <= left + 1 {
@@ -159,7 +159,7 @@ fn higher_child<T: Ranked>(heap: &[T], i: usize) -> usize
 // Moves the first element down, while a child outranks it.
 fn sift_down<T: Ranked>(heap: &mut [T])
     ensures shuffled { IsPermutation heap.old heap.new }
-    ensures sinks { Sinking above heap.old 0 → Ordered above heap.new }
+    ensures sinks { Sinking T.above heap.old 0 → Ordered T.above heap.new }
 {
     let mut i = 0;
     while i < heap.len() / 2 {
@@ -177,8 +177,8 @@ fn take_first<T: Ranked + Copy>(heap: &mut [T]) -> T
     requires { 0 < length heap.old }
     ensures same { IsPermutation heap.old (result ∷ take (length heap.old - 1) heap.new) }
     ensures left { (d : T) → slice_index_or heap.new (length heap.old - 1) d ≡ result }
-    ensures ordered { Ordered above heap.old → Ordered above (take (length heap.old - 1) heap.new) }
-    ensures greatest { Ordered above heap.old → Greatest above result heap.old }
+    ensures ordered { Ordered T.above heap.old → Ordered T.above (take (length heap.old - 1) heap.new) }
+    ensures greatest { Ordered T.above heap.old → Greatest T.above result heap.old }
 {
     let first = heap[0];
     let last = heap.len() - 1;
@@ -191,7 +191,7 @@ fn take_first<T: Ranked + Copy>(heap: &mut [T]) -> T
 fn lowest<T: Ranked>(list: &[T]) -> usize
     requires { 0 < length list.now }
     ensures bound { result < length list.now }
-    ensures least { Lowest above list.now result (length list.now) }
+    ensures least { Lowest T.above list.now result (length list.now) }
 {
     let mut best = 0;
     for i in 1..list.len() {
@@ -205,8 +205,8 @@ fn lowest<T: Ranked>(list: &[T]) -> usize
 // Puts x in the place of a least element if x outranks it, and gives what is left over.
 fn keep_higher<T: Ranked + Copy>(heap: &mut [T], x: T) -> T
     ensures same { IsPermutation (x ∷ heap.old) (result ∷ heap.new) }
-    ensures ordered { Ordered above heap.old → Ordered above heap.new }
-    ensures least { Least above result (x ∷ heap.old) }
+    ensures ordered { Ordered T.above heap.old → Ordered T.above heap.new }
+    ensures least { Least T.above result (x ∷ heap.old) }
 {
     if heap.len() == 0 {
         return x;

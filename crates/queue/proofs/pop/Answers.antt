@@ -7,6 +7,6 @@ use Rattle.queue.proofs.pop.Goals as goal
 pub returns : goal.returns
 returns g c =
     let a = c.args in
-    let t = c.take-first.ensures in
+    let t = c.take_first.ensures in
     let n : length (take a.len a.slots.now) ≡ a.len = length-take-le a.len a.slots.now (omega arith) in
-    simp sub-zero (popped g.T.Ranked.above g.met.T.Ranked.ranks a.slots.now c.take-first.new.heap a.len _ c.take-first.result (omega arith) (omega arith) (omega arith) (simp sub-zero at t.same) (simp sub-zero at t.left) (simp sub-zero at t.ordered) (simp sub-zero at t.greatest))
+    simp sub-zero (popped g.T.Ranked.above g.met.T.Ranked.ranks a.slots.now c.take_first.new.heap a.len _ c.take_first.result (omega arith) (omega arith) (omega arith) (simp sub-zero at t.same) (simp sub-zero at t.left) (simp sub-zero at t.ordered) (simp sub-zero at t.greatest))

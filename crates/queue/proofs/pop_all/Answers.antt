@@ -13,9 +13,9 @@ loop-i-preserved g c =
     let hs = c.args.heap.now in
     let l = c.loop-i in
     let ys = c.pop.new.slots in
-    let x = c.in-ok-out.field-0 in
+    let x = c.in_ok-out.field-0 in
     let e : length hs - l.i - 1 ≡ length hs - (l.i + 1) = omega arith in (
-      subst (λ m. Emptying v o hs ys (set l.out l.i x) m (l.i + 1)) e (empties v o hs l.heap ys l.out (length hs - l.i) l.i x (omega arith) (omega arith) c.in-ok-out.ensures l.invariant.0),
+      subst (λ m. Emptying v o hs ys (set l.out l.i x) m (l.i + 1)) e (empties v o hs l.heap ys l.out (length hs - l.i) l.i x (omega arith) (omega arith) c.in_ok-out.ensures l.invariant.0),
       drop-set-lt (length hs) l.out l.i x (omega arith) ∙ l.invariant.1,
     )
 

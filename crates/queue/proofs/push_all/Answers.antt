@@ -4,7 +4,7 @@ use Rattle.queue.proofs.push_all.Goals as goal
 
 pub loop-i-preserved : goal.loop-i-preserved
 loop-i-preserved g c =
-    fills g.T.Ranked.above g.met.T.Ranked.ranks c.args.given.now c.loop-i.heap c.push.new.slots c.loop-i.i _ c.index-given-i.result (omega arith) c.index-given-i.is c.in-ok-push.ensures c.loop-i.invariant
+    fills g.T.Ranked.above g.met.T.Ranked.ranks c.args.given.now c.loop-i.heap c.push.new.slots c.loop-i.i _ c.index-given-i.result (omega arith) c.index-given-i.is c.in_ok-push.ensures c.loop-i.invariant
 
 pub returns : goal.returns
 returns g c =

@@ -12,25 +12,25 @@ use Rattle.search.proofs.best_tree.Goals as goal
 pub heaviest-requires : goal.heaviest-requires
 heaviest-requires g c =
     let W = g.K.Kind in
-    let k = c.in-ok-check.ensures in
+    let k = c.in_ok-check.ensures in
     record {
       few = k.0.1;
       room = k.1;
       out = k.0.1;
-      sound = sound W.worth W.places W.sized c.args.words c.args.weights.now k.1.weights_in W.ranges W.ranged.1 (allowed c.args.sets.now c.args.held.now) c.if-not-all-entries.ensures;
+      sound = sound W.worth W.places W.sized c.args.words c.args.weights.now k.1.weights_in W.ranges W.ranged.1 (allowed c.args.sets.now c.args.held.now) c.if-not-all_entries.ensures;
     }
 
 pub returns-then-not-heaviest : goal.returns-then-not-heaviest
 returns-then-not-heaviest g c =
-    let k = c.in-ok-check.ensures in
+    let k = c.in_ok-check.ensures in
     (k.0, k.1, k.2, refl, λ _. no_tree c.args.words (allowed c.args.sets.now c.args.held.now) (c.heaviest.ensures.none c.if-not-heaviest.true))
 
-pub tree-weight-total-requires : goal.tree-weight-total-requires
-tree-weight-total-requires g c =
+pub tree_weight-total-requires : goal.tree_weight-total-requires
+tree_weight-total-requires g c =
     let W = g.K.Kind in
-    let k = c.in-ok-check.ensures in
+    let k = c.in_ok-check.ensures in
     let best = (c.heaviest.ensures.some c.if-not-heaviest.false).0 in
-    let s = sound W.worth W.places W.sized c.args.words c.args.weights.now k.1.weights_in W.ranges W.ranged.1 (allowed c.args.sets.now c.args.held.now) c.if-not-all-entries.ensures in
+    let s = sound W.worth W.places W.sized c.args.words c.args.weights.now k.1.weights_in W.ranges W.ranged.1 (allowed c.args.sets.now c.args.held.now) c.if-not-all_entries.ensures in
     record {
       room = (k.0.1, (k.1.weights_in, omega (arith, c.heaviest.auto.heads, k.0.1)));
       arcs = (best.in_line, λ w v. s.small (head_of c.heaviest.new.heads w) w v (best.in_line w v) (best.standing w v));
@@ -40,13 +40,13 @@ pub returns-then-place : goal.returns-then-place
 returns-then-place g c =
     let W = g.K.Kind in
     let n : ℕ = c.args.words in
-    let k = c.in-ok-check.ensures in
+    let k = c.in_ok-check.ensures in
     let stands : ℕ → ℕ → Bool = allowed c.args.sets.now c.args.held.now in
     let worth : ℕ → ℕ → Worth = weight_at W.worth n c.args.weights.now in
     let head : ℕ → ℕ = head_of c.heaviest.new.heads in
     let best = c.heaviest.ensures.some c.if-not-heaviest.false in
     let whole = total_is (arc_worth W.worth n c.args.weights.now) head (suc W.places) n k.0.0 (λ w v. arc_length W.worth W.places W.sized n c.args.weights.now k.1.weights_in (head w) w v (best.0.in_line w v)) in
-    let total : root_worth W.worth c.tree-weight-total.result ≡ tree_worth (arc_worth W.worth n c.args.weights.now) head n = c.tree-weight-total.ensures ∙ whole in (
+    let total : root_worth W.worth c.tree_weight-total.result ≡ tree_worth (arc_worth W.worth n c.args.weights.now) head n = c.tree_weight-total.ensures ∙ whole in (
       k.0,
       k.1,
       k.2,
@@ -59,21 +59,21 @@ pub returns : goal.returns
 returns g c =
     let W = g.K.Kind in
     let n : ℕ = c.args.words in
-    let k = c.in-ok-check.ensures in
+    let k = c.in_ok-check.ensures in
     let stands : ℕ → ℕ → Bool = allowed c.args.sets.now c.args.held.now in
     let worth : ℕ → ℕ → Worth = weight_at W.worth n c.args.weights.now in
     let head : ℕ → ℕ = head_of c.heaviest.new.heads in
     let best = c.heaviest.ensures.some c.if-not-heaviest.false in
     let whole = total_is (arc_worth W.worth n c.args.weights.now) head (suc W.places) n k.0.0 (λ w v. arc_length W.worth W.places W.sized n c.args.weights.now k.1.weights_in (head w) w v (best.0.in_line w v)) in
-    let total : root_worth W.worth c.tree-weight-total.result ≡ tree_worth (arc_worth W.worth n c.args.weights.now) head n = c.tree-weight-total.ensures ∙ whole in
+    let total : root_worth W.worth c.tree_weight-total.result ≡ tree_worth (arc_worth W.worth n c.args.weights.now) head n = c.tree_weight-total.ensures ∙ whole in
     let here : c.place.result ≡ negsuc 0 = omega (arith, ints, c.if-place.false) in
     let front = sym (ap (λ (x : Worth). get_or x 0 (pos 0)) total) ∙ (sym c.place.ensures ∙ here) in
-    let long : n ≤ length c.hand-out.new.heads = omega (arith, k.2, c.hand-out.auto.heads) in (
+    let long : n ≤ length c.hand_out.new.heads = omega (arith, k.2, c.hand_out.auto.heads) in (
       k.0,
       k.1,
       k.2,
-      c.hand-out.ensures.rest,
+      c.hand_out.ensures.rest,
       λ _.
-          the_heaviest n k.0.0 stands worth head best W.worth c.weight.result (take n c.hand-out.new.heads) (length-take-le n c.hand-out.new.heads long)
-          (λ w v. front_head n c.hand-out.new.heads w v ∙ c.hand-out.ensures.front w v) front (c.weight.ensures ∙ ap (drop 1) total),
+          the_heaviest n k.0.0 stands worth head best W.worth c.weight.result (take n c.hand_out.new.heads) (length-take-le n c.hand_out.new.heads long)
+          (λ w v. front_head n c.hand_out.new.heads w v ∙ c.hand_out.ensures.front w v) front (c.weight.ensures ∙ ap (drop 1) total),
     )

@@ -3,8 +3,8 @@ use Rattle.sheet.proofs.open.Goals as goal
 use Rattle.sheet.specs.declared.Lengths.{Lengths}
 use Rattle.std.proofs.Common.{length, rules}
 
-pub clear-sets-requires : goal.clear-sets-requires
-clear-sets-requires g c =
+pub clear_sets-requires : goal.clear_sets-requires
+clear_sets-requires g c =
     let lengths : Lengths =
     record {
       weights = length c.args.weights.now;

@@ -15,11 +15,11 @@ digits-last-requires t c = search (rules, length_more)
 pub bounds-space-last : goal.bounds-space-last
 bounds-space-last t c = search (rules, length_more)
 
-pub overflow-add-result : goal.overflow-add-result
-overflow-add-result t c = search (rules, length_more)
+pub overflow_add-result : goal.overflow_add-result
+overflow_add-result t c = search (rules, length_more)
 
-pub overflow-add-result-2 : goal.overflow-add-result-2
-overflow-add-result-2 t c = search (rules, length_more)
+pub overflow_add-result-2 : goal.overflow_add-result-2
+overflow_add-result-2 t c = search (rules, length_more)
 
 pub returns : goal.returns
 returns t c = search (rules, length_more, written_byte, decimal_step)

@@ -4,33 +4,33 @@ use Rattle.file.specs.Reading.{words_of_kind, words_told}
 use Rattle.std.proofs.lemmas.Result.{err_from_is_err_and, IfOk-from_err}
 use Rattle.std.proofs.Common.{◌≡◌, ℕ, ◌≤◌, length, is_ok, Ok, Err, sym, ap, ◌∙◌, subst}
 
-pub words-told-requires : goal.words-told-requires
-words-told-requires g c =
+pub words_told-requires : goal.words_told-requires
+words_told-requires g c =
     record {
-      long = kind_long c.args.file.now (ap is_ok (sym c.kind_of.ensures ∙ c.in-ok-told.was));
+      long = kind_long c.args.file.now (ap is_ok (sym c.kind_of.ensures ∙ c.in_ok-told.was));
       narrow = subst (λ (k : ℕ). k ≤ 5) (sym c.bytes.ensures) g.K.Recorded.narrow;
     }
 
 pub returns : goal.returns
 returns g c =
     let file = c.args.file.now in
-    let told = sym c.kind_of.ensures ∙ c.in-ok-told.was in
+    let told = sym c.kind_of.ensures ∙ c.in_ok-told.was in
     record {
       value =
           c.words_told.ensures
-          ∙ ap (λ k. words_told k c.bytes.result file c.in-ok-told.told) c.file-kind.ensures
-          ∙ ap (λ (b : ℕ). words_told g.K.Recorded.kind b file c.in-ok-told.told) c.bytes.ensures
+          ∙ ap (λ k. words_told k c.bytes.result file c.in_ok-told.told) c.file_kind.ensures
+          ∙ ap (λ (b : ℕ). words_told g.K.Recorded.kind b file c.in_ok-told.told) c.bytes.ensures
           ∙ ap (words_of_kind g.K.Recorded.kind g.K.Recorded.width file) (sym told);
       long = made_all c.words_told.result (5 ≤ length file) (kind_long file (ap is_ok told));
     }
 
-pub returns-in-err-told : goal.returns-in-err-told
-returns-in-err-told g c =
+pub returns-in_err-told : goal.returns-in_err-told
+returns-in_err-told g c =
     let file = c.args.file.now in
-    let was = c.in-err-told.was in
-    let p = err_from_is_err_and c.from-residual.result c.from-residual.ensures.1 in
-    let same : c.from-residual.result ≡ Err c.in-err-told.field-0.0 = cc (p.1, p.2) in
+    let was = c.in_err-told.was in
+    let p = err_from_is_err_and c.from_residual.result c.from_residual.ensures.1 in
+    let same : c.from_residual.result ≡ Err c.in_err-told.field-0.0 = cc (p.1, p.2) in
     record {
       value = same ∙ ap (words_of_kind g.K.Recorded.kind g.K.Recorded.width file) (sym (sym c.kind_of.ensures ∙ was));
-      long = IfOk-from_err c.from-residual.result (λ _. 5 ≤ length file) c.from-residual.ensures.0;
+      long = IfOk-from_err c.from_residual.result (λ _. 5 ≤ length file) c.from_residual.ensures.0;
     }

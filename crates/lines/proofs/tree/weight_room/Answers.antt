@@ -2,9 +2,9 @@ use Rattle.lines.proofs.Pieces.{length_before, length_behind, length_tree, room_
 use Rattle.lines.proofs.tree.weight_room.Goals as goal
 use Rattle.std.proofs.Common.{arith}
 
-pub returns-in-err-room : goal.returns-in-err-room
-returns-in-err-room c =
-    rw c.from-residual.ensures (λ a. omega (arith, length_tree c.args.number a c.args.heads.now, length_before c.args.number, length_behind c.args.heads.now, c.in-err-room.ensures))
+pub returns-in_err-room : goal.returns-in_err-room
+returns-in_err-room c =
+    rw c.from_residual.ensures (λ a. omega (arith, length_tree c.args.number a c.args.heads.now, length_before c.args.number, length_behind c.args.heads.now, c.in_err-room.ensures))
 
 pub returns : goal.returns
-returns c = room_between c.args.number c.args.len c.in-ok-room.room c.args.heads.now c.room-behind.result (omega (arith, c.in-ok-room.ensures)) c.room-behind.ensures
+returns c = room_between c.args.number c.args.len c.in_ok-room.room c.args.heads.now c.room_behind.result (omega (arith, c.in_ok-room.ensures)) c.room_behind.ensures

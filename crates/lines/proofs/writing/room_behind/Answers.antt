@@ -3,14 +3,14 @@ use Rattle.lines.proofs.writing.room_behind.Goals as goal
 use Rattle.std.proofs.lemmas.List.{drop_all}
 use Rattle.std.proofs.Common.{rules}
 
-pub returns-in-default : goal.returns-in-default
-returns-in-default c = search (rules, spaced_none)
+pub returns-in_default : goal.returns-in_default
+returns-in_default c = search (rules, spaced_none)
 
-pub returns-in-err-free : goal.returns-in-err-free
-returns-in-err-free c = search (rules, length_split)
+pub returns-in_err-free : goal.returns-in_err-free
+returns-in_err-free c = search (rules, length_split)
 
-pub returns-in-err-free-2 : goal.returns-in-err-free-2
-returns-in-err-free-2 c = search (rules, length_split, length_blanked)
+pub returns-in_err-free-2 : goal.returns-in_err-free-2
+returns-in_err-free-2 c = search (rules, length_split, length_blanked)
 
 pub loop-number-preserved : goal.loop-number-preserved
 loop-number-preserved c = search (rules, length_blanked)

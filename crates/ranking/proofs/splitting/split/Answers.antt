@@ -7,7 +7,7 @@ use Rattle.word_set.specs.Bits.{in_set}
 use Rattle.ranking.specs.Memory.{HoldsArcs, Waits}
 use Rattle.ranking.specs.Trees.{TreeOf}
 use Rattle.ranking.proofs.Splits.{passes, keeps, kept_some, kept_beyond}
-use Rattle.ranking.proofs.splitting.split.Goals.{in-Some, in-default}
+use Rattle.ranking.proofs.splitting.split.Goals.{in-Some, in_default}
 use Rattle.ranking.proofs.splitting.split.Goals as goal
 
 pub loop-word-preserved : goal.loop-word-preserved
@@ -34,7 +34,7 @@ loop-word-preserved g c =
             (subst (λ (xs : List (Candidate g.row.K.Denot)). Waits W.worth n arcs ts u (p + 1) xs w.keep-waiting.result) (sym w.candidates-is)
             (keeps W.worth n c.requires.line.1.0 arcs u p word c.bans-barred.result old.accounted.tree (bans arcs old.accounted.tree) ts w.in-Some.x l.candidates w.keep-waiting.new.candidates l.waiting w.keep-waiting.result (w.in-Some.ensures.sought arcs (here arcs holds)) w.keep-waiting.ensures.kept old)),
       )
-      | in-default w ↦ (
+      | in_default w ↦ (
         omega (arith, w.waiting-is, l.invariant.0),
         c.seek.ensures.kept ∙ l.invariant.1,
         ap (drop 50) w.candidates-is ∙ l.invariant.2,
@@ -43,7 +43,7 @@ loop-word-preserved g c =
             let old = l.invariant.4 arcs ts holds first in
             subst (λ (m : ℕ). Waits W.worth n arcs ts u (p + 1) c.match-seek.candidates m) (sym w.waiting-is)
             (subst (λ (xs : List (Candidate g.row.K.Denot)). Waits W.worth n arcs ts u (p + 1) xs l.waiting) (sym w.candidates-is)
-            (passes W.worth n c.requires.line.1.0 arcs u p word c.bans-barred.result old.accounted.tree (bans arcs old.accounted.tree) ts l.candidates l.waiting (w.in-default.ensures.sought arcs (here arcs holds)) old)),
+            (passes W.worth n c.requires.line.1.0 arcs u p word c.bans-barred.result old.accounted.tree (bans arcs old.accounted.tree) ts l.candidates l.waiting (w.in_default.ensures.sought arcs (here arcs holds)) old)),
       )
     ]
 

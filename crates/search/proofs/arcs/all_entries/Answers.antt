@@ -13,5 +13,5 @@ loop-to-preserved g c h d v lt le t =
           let stands : ℕ → ℕ → Bool = allowed c.args.sets.now c.args.held.now in
           let t' : stands h c.loop-to.to ≡ true = subst (λ (x : ℕ). stands h x ≡ true) e t in
           subst (λ (x : ℕ). entry_in g.K.Kind.ranges (weight_at g.K.Kind.worth c.args.n c.args.weights.now h x) ≡ true) (sym e)
-          (c.if-not-entries-into.ensures h (c.open-heads.ensures h ∙ and_from (leb h c.args.n) (stands h c.loop-to.to) (le-leb h c.args.n le) t'))
+          (c.if-not-entries_into.ensures h (c.open_heads.ensures h ∙ and_from (leb h c.args.n) (stands h c.loop-to.to) (le-leb h c.args.n le) t'))
     ]

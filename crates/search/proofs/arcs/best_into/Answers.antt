@@ -7,8 +7,8 @@ use Rattle.search.proofs.Scan.{element, free_arc, set_skip, set_take}
 use Rattle.search.proofs.arcs.best_into.Goals.{then-holds, else-holds}
 use Rattle.search.proofs.arcs.best_into.Goals as goal
 
-pub best-arc-next-requires : goal.best-arc-next-requires
-best-arc-next-requires g c =
+pub best_arc-next-requires : goal.best_arc-next-requires
+best_arc-next-requires g c =
     let f = g.K.Kind.worth in
     let n : ℕ = c.args.n in
     let to : ℕ = c.loop-to.to in
@@ -17,7 +17,7 @@ best-arc-next-requires g c =
     let w : ℕ → ℕ → Worth = with_potential worth (potential f c.args.potentials.now) in
     let l : to < length c.args.potentials.now = omega (arith, c.loop-to-test.true, c.requires.room) in
     let e = element (root_worth f) c.args.potentials.now to c.index-potentials-to.result l c.index-potentials-to.is in
-    let q = free_arc f w n (allowed c.args.sets.now c.args.held.now) c.args.inside to c.open-heads.result c.without-heads.result c.open-heads.ensures c.without-heads.ensures in
+    let q = free_arc f w n (allowed c.args.sets.now c.args.held.now) c.args.inside to c.open_heads.result c.without-heads.result c.open_heads.ensures c.without-heads.ensures in
     record {
       room = (c.requires.room.0, (c.requires.room.1.1.0, (v, λ h t. (q h t).0)));
       small = (λ h t. c.requires.small.0 h to v (q h t).0 (q h t).1, subst (Within (2 ^ 30)) (sym e) (c.requires.small.1 to v));
@@ -37,8 +37,8 @@ loop-to-preserved g c =
       | then-holds y ↦
           let e = element (root_worth f) c.args.potentials.now to y.index-potentials-to.result l y.index-potentials-to.is in
           subst (Best f (SetArc n (to + 1) stands c.args.inside) w) (sym (y.best-is ∙ y.better-best.ensures))
-          (set_take f w n stands c.args.inside to y.open-heads.result y.without-heads.result y.open-heads.ensures y.without-heads.ensures c.loop-to.best y.best-arc-next.result (with_potential worth (λ _. root_worth f y.index-potentials-to.result)) v
-          (sym y.if-holds.ensures) (λ h. ap (plus (worth h to)) e) y.best-arc-next.ensures c.loop-to.invariant)
+          (set_take f w n stands c.args.inside to y.open_heads.result y.without-heads.result y.open_heads.ensures y.without-heads.ensures c.loop-to.best y.best_arc-next.result (with_potential worth (λ _. root_worth f y.index-potentials-to.result)) v
+          (sym y.if-holds.ensures) (λ h. ap (plus (worth h to)) e) y.best_arc-next.ensures c.loop-to.invariant)
       | else-holds y ↦
           subst (Best f (SetArc n (to + 1) stands c.args.inside) w) (sym y.best-is)
           (set_skip f w n stands c.args.inside to c.loop-to.best (sym y.if-holds.ensures) c.loop-to.invariant)

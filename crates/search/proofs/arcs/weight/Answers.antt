@@ -2,8 +2,8 @@ use Rattle.std.proofs.Common.{ℕ, ◌+◌, ◌-◌, ◌*◌, ◌<◌, length, a
 use Rattle.search.proofs.Scan.{element, place_lt}
 use Rattle.search.proofs.arcs.weight.Goals as goal
 
-pub offset-bounds-weights-to : goal.offset-bounds-weights-to
-offset-bounds-weights-to g c = omega (arith, place_lt c.args.n c.args.from c.args.to (omega arith) (omega arith))
+pub offset_bounds-weights-to : goal.offset_bounds-weights-to
+offset_bounds-weights-to g c = omega (arith, place_lt c.args.n c.args.from c.args.to (omega arith) (omega arith))
 
 pub bounds-weights-to : goal.bounds-weights-to
 bounds-weights-to g c = omega (arith, place_lt c.args.n c.args.from c.args.to (omega arith) (omega arith))

@@ -38,8 +38,8 @@ raise-requires g c =
       ),
     )
 
-pub best-into-requires : goal.best-into-requires
-best-into-requires g c =
+pub best_into-requires : goal.best_into-requires
+best_into-requires g c =
     let W = g.K.Kind in
     let s = c.requires.room in
     record {

@@ -18,13 +18,13 @@ loop-word-init g c =
     let e = ap (λ xs. group_at f xs 0) c.place.ensures ∙ group_set_same f c.args.nodes.now 0 _ l in
     (ap (λ (x : Group). x.to) e, ap (λ (x : Group). x.from) e, λ w v lt. absurd (omega (arith, v.0)))
 
-pub best-head-requires : goal.best-head-requires
-best-head-requires g c =
+pub best_head-requires : goal.best_head-requires
+best_head-requires g c =
     let f = g.K.Kind.worth in
     let n : ℕ = c.args.n in
     let stands : ℕ → ℕ → Bool = allowed c.args.sets.now c.args.held.now in
     let v : Word n c.loop-word.word = (c.loop-word.auto.word, omega (arith, c.loop-word-test.true)) in
-    let q = free_arc f (arc_worth f n c.args.weights.now) n stands c.only-members.result c.loop-word.word c.open-heads.result c.without-heads.result c.open-heads.ensures c.without-heads.ensures in
+    let q = free_arc f (arc_worth f n c.args.weights.now) n stands c.only-members.result c.loop-word.word c.open_heads.result c.without-heads.result c.open_heads.ensures c.without-heads.ensures in
     (c.requires.room.0, (c.requires.room.1.1.0, (v, λ h t. (q h t).0)))
 
 pub arc-value-requires : goal.arc-value-requires
@@ -33,7 +33,7 @@ arc-value-requires g c =
     let n : ℕ = c.args.n in
     let stands : ℕ → ℕ → Bool = allowed c.args.sets.now c.args.held.now in
     let v : Word n c.loop-word.word = (c.loop-word.auto.word, omega (arith, c.loop-word-test.true)) in
-    let q = free_arc f (arc_worth f n c.args.weights.now) n stands c.only-members.result c.loop-word.word c.open-heads.result c.without-heads.result c.open-heads.ensures c.without-heads.ensures in
+    let q = free_arc f (arc_worth f n c.args.weights.now) n stands c.only-members.result c.loop-word.word c.open_heads.result c.without-heads.result c.open_heads.ensures c.without-heads.ensures in
     (c.requires.room.0, (c.requires.room.1.1.0, (v, (q c.in-Some.from c.in-Some.ensures.0).0)))
 
 pub returns-in-None : goal.returns-in-None
@@ -44,7 +44,7 @@ returns-in-None g c =
     let v : Word n c.loop-word.word = (c.loop-word.auto.word, omega (arith, c.loop-word-test.true)) in
     record {
       more = λ e. absurd (false≢true e);
-      none = λ _. begin_none f n stands (arc_worth f n c.args.weights.now) (zeros (suc g.K.Kind.places)) c.loop-word.word c.only-members.result c.open-heads.result c.without-heads.result v c.only-members.ensures c.open-heads.ensures c.without-heads.ensures c.in-None.ensures;
+      none = λ _. begin_none f n stands (arc_worth f n c.args.weights.now) (zeros (suc g.K.Kind.places)) c.loop-word.word c.only-members.result c.open_heads.result c.without-heads.result v c.only-members.ensures c.open_heads.ensures c.without-heads.ensures c.in-None.ensures;
     }
 
 pub loop-word-preserved : goal.loop-word-preserved
@@ -57,7 +57,7 @@ loop-word-preserved g c =
     let z : Worth = zeros (suc g.K.Kind.places) in
     let v : Word n k = (c.loop-word.auto.word, omega (arith, c.loop-word-test.true)) in
     let l : k < length c.loop-word.nodes = omega (arith, c.loop-word-test.true, c.loop-word.auto.nodes, c.place.auto.merges, c.requires.room) in
-    let b = begin_some f n stands worth z k c.only-members.result c.open-heads.result c.without-heads.result v c.only-members.ensures c.open-heads.ensures c.without-heads.ensures c.requires.sound.whole c.in-Some.from (root_worth f c.arc-value.result) c.arc-value.ensures c.in-Some.ensures in
+    let b = begin_some f n stands worth z k c.only-members.result c.open_heads.result c.without-heads.result v c.only-members.ensures c.open_heads.ensures c.without-heads.ensures c.requires.sound.whole c.in-Some.from (root_worth f c.arc-value.result) c.arc-value.ensures c.in-Some.ensures in
     subst (λ ws. BegunTo n stands worth z (group_at f ws) (k + 1)) (sym c.place-in-Some.ensures) (begin_more f n stands worth z c.loop-word.nodes k _ v.0 l b c.loop-word.invariant)
 
 pub returns : goal.returns

@@ -9,14 +9,14 @@ returns-then-room-digits t c = search (rules, length_bracketed)
 pub loop-i-init : goal.loop-i-init
 loop-i-init t c = search (rules, length_bracketed)
 
-pub room-behind-requires : goal.room-behind-requires
-room-behind-requires t c = search (rules, falls)
+pub room_behind-requires : goal.room_behind-requires
+room_behind-requires t c = search (rules, falls)
 
 pub returns-then-free-eq0 : goal.returns-then-free-eq0
 returns-then-free-eq0 t c = search (rules, length_rest)
 
-pub returns-in-err-free : goal.returns-in-err-free
-returns-in-err-free t c = search (rules, length_rest)
+pub returns-in_err-free : goal.returns-in_err-free
+returns-in_err-free t c = search (rules, length_rest)
 
 pub loop-i-preserved : goal.loop-i-preserved
 loop-i-preserved t c = search (rules, length_rest, rest_no)

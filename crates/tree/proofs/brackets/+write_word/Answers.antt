@@ -11,8 +11,8 @@ loop-i-init t c = search (rules, length_bracketed)
 pub bounds-space-end : goal.bounds-space-end
 bounds-space-end t c = search (rules, length_rest)
 
-pub write-word-requires : goal.write-word-requires
-write-word-requires t c = search (rules, length_rest, falls)
+pub write_word-requires : goal.write_word-requires
+write_word-requires t c = search (rules, length_rest, falls)
 
 pub loop-i-preserved : goal.loop-i-preserved
 loop-i-preserved t c = search (rules, length_rest, rest_yes, rest_no, mark_then)
@@ -26,5 +26,5 @@ bounds-space-end-2 t c = search (rules, rest_last)
 pub returns : goal.returns
 returns t c = search (rules, length_bracketed, rest_last, written_one, whole_text)
 
-pub returns-in-err-end : goal.returns-in-err-end
-returns-in-err-end t c = search (rules, length_bracketed)
+pub returns-in_err-end : goal.returns-in_err-end
+returns-in_err-end t c = search (rules, length_bracketed)

@@ -5,8 +5,8 @@ use Rattle.tree.proofs.Rests.{rest}
 use Rattle.tree.proofs.brackets.+write_word.Given as goal
 use Rattle.tree.specs.Brackets.{bracketed}
 
-abbrev pub decreases-write-word : goal.decreases-write-word
-decreases-write-word l = unwritten l.heads.now l.word
+abbrev pub decreases-write_word : goal.decreases-write_word
+decreases-write_word l = unwritten l.heads.now l.word
 
 -- with the text that is still to come, the space is as it will be
 abbrev pub invariant-loop-i : goal.invariant-loop-i
