@@ -17,7 +17,7 @@ returns g c =
     let m = length xs - 1 in
     let w = c.swap.ensures in
     let t = c.sift_down.ensures in
-    let s = w.by-index in
+    let s = w.by_index in
     let x = c.index-heap-0.result in
     let front = take_at zs _ m (omega arith) in
     simp sub-zero record {

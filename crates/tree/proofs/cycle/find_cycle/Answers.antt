@@ -14,8 +14,8 @@ loop-word-preserved c =
     let heads = c.args.heads.now in (
       search rules,
       search rules,
-      subst (Leads heads _) (sym c.head_word.ensures) (leads_more heads c.loop-word.seen c.loop-word.word c.loop-word.invariant.2),
-      λ r. c.loop-word.invariant.3 (one_more heads c.loop-word.word (subst (Reaches (head_of heads)) c.head_word.ensures r)),
+      subst (Leads heads _) (sym c.head-word.ensures) (leads_more heads c.loop-word.seen c.loop-word.word c.loop-word.invariant.2),
+      λ r. c.loop-word.invariant.3 (one_more heads c.loop-word.word (subst (Reaches (head_of heads)) c.head-word.ensures r)),
     )
 
 pub words-preserved : goal.words-preserved
