@@ -79,8 +79,8 @@ fn walk<K: Kind + Copy>(
     fine: u64,
     start: usize,
 ) -> Result<u64, usize>
-    requires n_bound { (n ≤ 40) × (((n < length nodes.now) × (made ≤ length merges.now)) × ((made < 64) × ((1 ≤ start) × (start ≤ n)))) }
-    requires by_index { (((w : ℕ) → Word n w → head_by (group_at K.Kind.worth nodes.now) (group_at K.Kind.worth merges.now) made w ≤ n)) × (in_set fine 0 ≡ true) }
+    requires sizes { (n ≤ 40) × (((n < length nodes.now) × (made ≤ length merges.now)) × ((made < 64) × ((1 ≤ start) × (start ≤ n)))) }
+    requires heads { (((w : ℕ) → Word n w → head_by (group_at K.Kind.worth nodes.now) (group_at K.Kind.worth merges.now) made w ≤ n)) × (in_set fine 0 ≡ true) }
     ensures { Walked n (head_by (group_at K.Kind.worth nodes.now) (group_at K.Kind.worth merges.now) made) fine start result }
 {
     let mut seen = 0;
@@ -102,8 +102,8 @@ pub(crate) fn find_ring<K: Kind + Copy>(
     merges: &[Node<K>],
     made: usize,
 ) -> Option<usize>
-    requires n_bound { (n ≤ 40) × (((n < length nodes.now) × (made ≤ length merges.now)) × (made < 64)) }
-    requires by_index { (w : ℕ) → Word n w → head_by (group_at K.Kind.worth nodes.now) (group_at K.Kind.worth merges.now) made w ≤ n }
+    requires sizes { (n ≤ 40) × (((n < length nodes.now) × (made ≤ length merges.now)) × (made < 64)) }
+    requires heads { (w : ℕ) → Word n w → head_by (group_at K.Kind.worth nodes.now) (group_at K.Kind.worth merges.now) made w ≤ n }
     ensures { Found n (head_by (group_at K.Kind.worth nodes.now) (group_at K.Kind.worth merges.now) made) result }
 {
     let mut fine = only(0);
@@ -128,7 +128,7 @@ pub(crate) fn ring_members<K: Kind + Copy>(
     made: usize,
     word: usize,
 ) -> u64
-    requires n_bound { (n ≤ 40) × (((n < length nodes.now) × (made ≤ length merges.now)) × ((made < 64) × (Word n word))) }
+    requires sizes { (n ≤ 40) × (((n < length nodes.now) × (made ≤ length merges.now)) × ((made < 64) × (Word n word))) }
     requires laid { (Laid n (group_at K.Kind.worth nodes.now) (family (group_at K.Kind.worth merges.now) made)) × (Periodic (head_by (group_at K.Kind.worth nodes.now) (group_at K.Kind.worth merges.now) made) word) }
     ensures { Ring n (group_at K.Kind.worth nodes.now) (family (group_at K.Kind.worth merges.now) made) result }
 {

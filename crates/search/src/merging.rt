@@ -24,7 +24,7 @@ fn total<K: Kind + Copy>(
     made: usize,
     members: u64,
 ) -> Root<K>
-    requires n_bound { (n ≤ 40) × (((n < length nodes.now) × (made ≤ length merges.now)) × (made < 64)) }
+    requires sizes { (n ≤ 40) × (((n < length nodes.now) × (made ≤ length merges.now)) × (made < 64)) }
     requires laid { (Laid n (group_at K.Kind.worth nodes.now) (family (group_at K.Kind.worth merges.now) made)) × (((w : ℕ) → Word n w → Within (2 ^ 26) (best_of (group_at K.Kind.worth nodes.now) (family (group_at K.Kind.worth merges.now) made) w))) }
     ensures { root_worth K.Kind.worth result ≡ plus (zeros (suc K.Kind.places)) (sum_if (λ ℓ. leads (rep_of (family (group_at K.Kind.worth merges.now) made)) ℓ && in_set members ℓ) (best_of (group_at K.Kind.worth nodes.now) (family (group_at K.Kind.worth merges.now) made)) n) }
 {
@@ -67,8 +67,8 @@ fn raise<K: Kind + Copy>(
     all: Root<K>,
     potentials: &mut [Root<K>],
 )
-    requires n_bound { (n ≤ 40) × (((n < length nodes.now) × (made ≤ length merges.now)) × ((made < 64) × (n < length potentials.old))) }
-    requires by_index { (((w : ℕ) → Word n w → Within (2 ^ 26) (best_of (group_at K.Kind.worth nodes.now) (family (group_at K.Kind.worth merges.now) made) w))) × ((((w : ℕ) → Word n w → Within (2 ^ 30) (potential K.Kind.worth potentials.old w))) × (Within (2 ^ 32) (root_worth K.Kind.worth all))) }
+    requires sizes { (n ≤ 40) × (((n < length nodes.now) × (made ≤ length merges.now)) × ((made < 64) × (n < length potentials.old))) }
+    requires small { (((w : ℕ) → Word n w → Within (2 ^ 26) (best_of (group_at K.Kind.worth nodes.now) (family (group_at K.Kind.worth merges.now) made) w))) × ((((w : ℕ) → Word n w → Within (2 ^ 30) (potential K.Kind.worth potentials.old w))) × (Within (2 ^ 32) (root_worth K.Kind.worth all))) }
     ensures { (d : ℕ) → Word n d → potential K.Kind.worth potentials.new d ≡ (if in_set members d then minus (plus (potential K.Kind.worth potentials.old d) (root_worth K.Kind.worth all)) (best_of (group_at K.Kind.worth nodes.now) (family (group_at K.Kind.worth merges.now) made) d) else potential K.Kind.worth potentials.old d) }
 {
     for word in 1..n + 1 {

@@ -9,20 +9,20 @@ use Rattle.search.proofs.Records.{leads_more, start_seen, not_root, walked_start
 use Rattle.search.proofs.family.walk.Goals as goal
 
 pub steps-init : goal.steps-init
-steps-init g c = (c.requires.0.1.1.1.1, λ x t. absurd (both_ways (in_set 0 x) (in_set_empty x) t), inl refl)
+steps-init g c = (c.requires.sizes.1.1.1.1, λ x t. absurd (both_ways (in_set 0 x) (in_set_empty x) t), inl refl)
 
 pub steps-smaller : goal.steps-smaller
 steps-smaller g c =
-    let one : 1 ≤ c.steps.word = not_root c.args.fine c.steps.word c.requires.1.1 (sym c.steps-test.ensures) in
+    let one : 1 ≤ c.steps.word = not_root c.args.fine c.steps.word c.requires.heads.1 (sym c.steps-test.ensures) in
     missing_less c.args.n c.steps.seen c.only.result c.either-seen.result c.steps.word (one, c.steps.invariant.0) c.either-seen.ensures (sym c.if-holds.ensures) (c.only.ensures c.steps.word ∙ eq-eqb c.steps.word c.steps.word refl)
 
 pub steps-preserved : goal.steps-preserved
 steps-preserved g c =
-    let one : 1 ≤ c.steps.word = not_root c.args.fine c.steps.word c.requires.1.1 (sym c.steps-test.ensures) in
+    let one : 1 ≤ c.steps.word = not_root c.args.fine c.steps.word c.requires.heads.1 (sym c.steps-test.ensures) in
     let h = head_by (group_at g.K.Kind.worth c.args.nodes.now) (group_at g.K.Kind.worth c.args.merges.now) c.args.made in (
-      subst (λ (x : ℕ). x ≤ c.args.n) (sym c.head_word.ensures) (c.requires.1.0 c.steps.word (one, c.steps.invariant.0)),
-      leads_more h c.steps.seen c.only.result c.either-seen.result c.steps.word c.head_word.result c.either-seen.ensures c.only.ensures c.head_word.ensures c.steps.invariant.1,
-      start_seen c.steps.seen c.only.result c.either-seen.result c.steps.word c.args.start c.head_word.result c.either-seen.ensures c.only.ensures c.steps.invariant.2,
+      subst (λ (x : ℕ). x ≤ c.args.n) (sym c.head-word.ensures) (c.requires.heads.0 c.steps.word (one, c.steps.invariant.0)),
+      leads_more h c.steps.seen c.only.result c.either-seen.result c.steps.word c.head-word.result c.either-seen.ensures c.only.ensures c.head-word.ensures c.steps.invariant.1,
+      start_seen c.steps.seen c.only.result c.either-seen.result c.steps.word c.args.start c.head-word.result c.either-seen.ensures c.only.ensures c.steps.invariant.2,
     )
 
 pub returns : goal.returns
@@ -33,5 +33,5 @@ returns g c =
 
 pub returns-then-holds : goal.returns-then-holds
 returns-then-holds g c =
-    let one : 1 ≤ c.steps.word = not_root c.args.fine c.steps.word c.requires.1.1 (sym c.steps-test.ensures) in
+    let one : 1 ≤ c.steps.word = not_root c.args.fine c.steps.word c.requires.heads.1 (sym c.steps-test.ensures) in
     ((one, c.steps.invariant.0), c.steps.invariant.1 c.steps.word (sym c.if-holds.ensures))

@@ -15,7 +15,7 @@ find_ring-requires g c =
     let W = g.K.Kind in
     let s = c.requires.room in
     let l = state_laid W.worth W.places W.sized c.args.n c.requires.few (allowed c.args.sets.now c.args.held.now) (arc_worth W.worth c.args.n c.args.weights.now) c.requires.sound c.args.nodes.now c.rounds.merges c.rounds.potentials c.rounds.made (omega (arith, c.rounds.auto.potentials, s.potentials_in)) c.rounds.invariant.0 in
-    ((c.requires.few, ((s.nodes_in, omega (arith, c.rounds.auto.merges, s.merges_in, c.rounds.invariant.1)), omega (arith, c.requires.few, c.rounds.invariant.1))), λ w v. l.in_line w v.1)
+    (record { sizes = (c.requires.few, ((s.nodes_in, omega (arith, c.rounds.auto.merges, s.merges_in, c.rounds.invariant.1)), omega (arith, c.requires.few, c.rounds.invariant.1))); heads = λ w v. l.in_line w v.1 })
 
 pub ring_members-members-requires : goal.ring_members-members-requires
 ring_members-members-requires g c =
@@ -23,7 +23,7 @@ ring_members-members-requires g c =
     let s = c.requires.room in
     let l = state_laid W.worth W.places W.sized c.args.n c.requires.few (allowed c.args.sets.now c.args.held.now) (arc_worth W.worth c.args.n c.args.weights.now) c.requires.sound c.args.nodes.now c.rounds.merges c.rounds.potentials c.rounds.made (omega (arith, c.rounds.auto.potentials, s.potentials_in)) c.rounds.invariant.0 in
     let r = c.in-Some.ensures in
-    ((c.requires.few, ((s.nodes_in, omega (arith, c.rounds.auto.merges, s.merges_in, c.rounds.invariant.1)), (omega (arith, c.requires.few, c.rounds.invariant.1), r.0))), (l, r.1))
+    (record { sizes = (c.requires.few, ((s.nodes_in, omega (arith, c.rounds.auto.merges, s.merges_in, c.rounds.invariant.1)), (omega (arith, c.requires.few, c.rounds.invariant.1), r.0))); laid = (l, r.1) })
 
 pub merge-requires : goal.merge-requires
 merge-requires g c =

@@ -14,29 +14,29 @@ pub total-all-requires : goal.total-all-requires
 total-all-requires g c =
     let W = g.K.Kind in
     let s = c.requires.room in
-    let room = state_room W.worth W.places W.sized c.args.n c.requires.few (allowed c.args.sets.now c.args.held.now) (arc_worth W.worth c.args.n c.args.weights.now) c.requires.sound c.args.nodes.now c.args.merges.now c.args.potentials.now c.args.made s.potentials_in c.requires.state c.args.members c.requires.ring in (
-      (c.requires.few, ((s.nodes_in, omega (arith, room, s.merges_in)), omega (arith, room, c.requires.few))),
-      (
+    let room = state_room W.worth W.places W.sized c.args.n c.requires.few (allowed c.args.sets.now c.args.held.now) (arc_worth W.worth c.args.n c.args.weights.now) c.requires.sound c.args.nodes.now c.args.merges.now c.args.potentials.now c.args.made s.potentials_in c.requires.state c.args.members c.requires.ring in (record {
+      sizes = (c.requires.few, ((s.nodes_in, omega (arith, room, s.merges_in)), omega (arith, room, c.requires.few)));
+      laid = (
         state_laid W.worth W.places W.sized c.args.n c.requires.few (allowed c.args.sets.now c.args.held.now) (arc_worth W.worth c.args.n c.args.weights.now) c.requires.sound c.args.nodes.now c.args.merges.now c.args.potentials.now c.args.made s.potentials_in c.requires.state,
         state_value W.worth W.places W.sized c.args.n c.requires.few (allowed c.args.sets.now c.args.held.now) (arc_worth W.worth c.args.n c.args.weights.now) c.requires.sound c.args.nodes.now c.args.merges.now c.args.potentials.now c.args.made s.potentials_in c.requires.state,
-      ),
-    )
+      );
+    })
 
 pub raise-requires : goal.raise-requires
 raise-requires g c =
     let W = g.K.Kind in
     let s = c.requires.room in
-    let room = state_room W.worth W.places W.sized c.args.n c.requires.few (allowed c.args.sets.now c.args.held.now) (arc_worth W.worth c.args.n c.args.weights.now) c.requires.sound c.args.nodes.now c.args.merges.now c.args.potentials.now c.args.made s.potentials_in c.requires.state c.args.members c.requires.ring in (
-      (c.requires.few, ((s.nodes_in, omega (arith, room, s.merges_in)), (omega (arith, room, c.requires.few), s.potentials_in))),
-      (
+    let room = state_room W.worth W.places W.sized c.args.n c.requires.few (allowed c.args.sets.now c.args.held.now) (arc_worth W.worth c.args.n c.args.weights.now) c.requires.sound c.args.nodes.now c.args.merges.now c.args.potentials.now c.args.made s.potentials_in c.requires.state c.args.members c.requires.ring in (record {
+      sizes = (c.requires.few, ((s.nodes_in, omega (arith, room, s.merges_in)), (omega (arith, room, c.requires.few), s.potentials_in)));
+      small = (
         state_value W.worth W.places W.sized c.args.n c.requires.few (allowed c.args.sets.now c.args.held.now) (arc_worth W.worth c.args.n c.args.weights.now) c.requires.sound c.args.nodes.now c.args.merges.now c.args.potentials.now c.args.made s.potentials_in c.requires.state,
         (
           state_added W.worth W.places W.sized c.args.n c.requires.few (allowed c.args.sets.now c.args.held.now) (arc_worth W.worth c.args.n c.args.weights.now) c.requires.sound c.args.nodes.now c.args.merges.now c.args.potentials.now c.args.made s.potentials_in c.requires.state,
           subst (Within (2 ^ 32)) (sym c.total-all.ensures) (state_all W.worth W.places W.sized c.args.n c.requires.few (allowed c.args.sets.now c.args.held.now) (arc_worth W.worth c.args.n c.args.weights.now) c.requires.sound c.args.nodes.now c.args.merges.now c.args.potentials.now c.args.made s.potentials_in c.requires.state
               (λ ℓ. leads (rep_of (family (group_at W.worth c.args.merges.now) c.args.made)) ℓ && in_set c.args.members ℓ)),
         ),
-      ),
-    )
+      );
+    })
 
 pub best_into-requires : goal.best_into-requires
 best_into-requires g c =

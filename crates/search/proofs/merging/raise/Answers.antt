@@ -32,11 +32,11 @@ loop-word-preserved g c =
           let v : Word n w = omega arith in
           let at : Worth = potential f c.args.potentials.now w in
           let all : Worth = root_worth f c.args.all in
-          let at_small : Within (2 ^ 30) at = c.requires.1.1.0 w v in
-          let all_small : Within (2 ^ 32) all = c.requires.1.1.1 in
+          let at_small : Within (2 ^ 30) at = c.requires.small.1.0 w v in
+          let all_small : Within (2 ^ 32) all = c.requires.small.1.1 in
           let s : root_worth f y.sum-sum.result ≡ plus at all = y.sum-sum.ensures (subst (Within (2 ^ 40)) (sym a) (within_more (2 ^ 30) (2 ^ 40) at (omega arith) at_small)) (within_more (2 ^ 32) (2 ^ 40) all (omega arith) all_small) ∙ ap (λ (x : Worth). plus x all) a in
           let sum_small : Within (2 ^ 40) (root_worth f y.sum-sum.result) = subst (Within (2 ^ 40)) (sym s) (within_more (2 ^ 30 + 2 ^ 32) (2 ^ 40) (plus at all) (omega arith) (within_plus (2 ^ 30) (2 ^ 32) at all at_small all_small)) in
-          let value_small : Within (2 ^ 40) (root_worth f y.top-node.result.value) = subst (Within (2 ^ 40)) (sym e) (within_more (2 ^ 26) (2 ^ 40) (best_of base ms w) (omega arith) (c.requires.1.0 w v)) in
+          let value_small : Within (2 ^ 40) (root_worth f y.top-node.result.value) = subst (Within (2 ^ 40)) (sym e) (within_more (2 ^ 26) (2 ^ 40) (best_of base ms w) (omega arith) (c.requires.small.0 w v)) in
           let q : root_worth f y.difference-next.result ≡ r w = y.difference-next.ensures sum_small value_small ∙ (ap (λ (x : Worth). minus x (root_worth f y.top-node.result.value)) s ∙ ap (minus (plus at all)) e) in
           subst (λ xs. RaisedTo (root_worth f) n S r old xs (w + 1)) (sym (y.potentials-is ∙ y.store.ensures)) (raised_yes (root_worth f) n S r old c.loop-word.potentials w y.difference-next.result l (sym y.if-holds.ensures) q c.loop-word.invariant)
       | else-holds y ↦

@@ -26,14 +26,14 @@ loop-word-preserved g c =
     let w : ℕ = c.loop-word.word in
     let z : Worth = zeros (suc g.K.Kind.places) in
     let p : ℕ → Bool = λ ℓ. leads (rep_of ms) ℓ && in_set c.args.members ℓ in
-    let own : c.top-node.result.to ≡ rep_of ms w = ap (λ (x : Group). x.to) c.top-node.ensures ∙ c.requires.1.0.own w (omega arith) in
+    let own : c.top-node.result.to ≡ rep_of ms w = ap (λ (x : Group). x.to) c.top-node.ensures ∙ c.requires.laid.0.own w (omega arith) in
     let e : root_worth f c.top-node.result.value ≡ best_of base ms w = ap (λ (x : Group). x.value) c.top-node.ensures ∙ entry_value base ms w in
     elim c.if-node-word.branch [
       | then-node-word+then-holds y ↦
           let l : leads (rep_of ms) w ≡ true = eq-eqb (rep_of ms w) w (sym own ∙ y.if-node-word.true) in
           let le : (2 ^ 26) * (w - 1) ≤ 2 ^ 40 = omega arith in
-          let so_far : Within (2 ^ 40) (root_worth f c.loop-word.sum) = subst (Within (2 ^ 40)) (sym c.loop-word.invariant) (sum_small (2 ^ 26) (suc g.K.Kind.places) p (best_of base ms) (w - 1) (2 ^ 40) (λ v u. c.requires.1.1 v (u.0, omega arith)) le) in
-          let next : Within (2 ^ 40) (root_worth f c.top-node.result.value) = subst (Within (2 ^ 40)) (sym e) (within_more (2 ^ 26) (2 ^ 40) (best_of base ms w) (omega arith) (c.requires.1.1 w (c.loop-word.auto.word, omega arith))) in
+          let so_far : Within (2 ^ 40) (root_worth f c.loop-word.sum) = subst (Within (2 ^ 40)) (sym c.loop-word.invariant) (sum_small (2 ^ 26) (suc g.K.Kind.places) p (best_of base ms) (w - 1) (2 ^ 40) (λ v u. c.requires.laid.1 v (u.0, omega arith)) le) in
+          let next : Within (2 ^ 40) (root_worth f c.top-node.result.value) = subst (Within (2 ^ 40)) (sym e) (within_more (2 ^ 26) (2 ^ 40) (best_of base ms w) (omega arith) (c.requires.laid.1 w (c.loop-word.auto.word, omega arith))) in
           ap (root_worth f) y.sum-is ∙ (y.sum-sum.ensures so_far next ∙ (ap (λ (x : Worth). plus x (root_worth f c.top-node.result.value)) c.loop-word.invariant ∙ (ap (plus (plus z (sum_if p (best_of base ms) (w - 1)))) e ∙ sum_yes z p (best_of base ms) w c.loop-word.auto.word (and_from (leads (rep_of ms) w) (in_set c.args.members w) l (sym y.if-holds.ensures)))))
       | then-node-word+else-holds y ↦
           let l : leads (rep_of ms) w ≡ true = eq-eqb (rep_of ms w) w (sym own ∙ y.if-node-word.true) in
