@@ -1,10 +1,9 @@
 -- No tree is worth more than the search says
-use Rattle.std.proofs.Common.{◌≡◌, ℕ, ◌≤◌, Bool, true, false, cond, not, ◌&&◌, eqb, ◌⊎◌, [], sym, refl, ap, ◌∙◌, subst, inl, inr, arith}
-use Rattle.std.proofs.lemmas.Bool.{cases_eq, cases_Bool, eq-eqb, ne_eqb, and_parts, and_from, cond-true, cond-false}
+use Rattle.std.proofs.Common.{◌≡◌, ℕ, Bool, true, false, cond, not, ◌&&◌, eqb, ◌⊎◌, [], sym, refl, ap, ◌∙◌, subst, inl, inr}
+use Rattle.std.proofs.lemmas.Bool.{cases_eq, cases_Bool, eq-eqb, ne_eqb, and_parts, and_from, cond-true}
 use Rattle.weight.specs.Worth.{Worth, plus, minus, AtMost}
-use Rattle.tree.specs.Chains.{Word}
 use Rattle.arborescence.specs.Sum.{sum_if}
-use Rattle.arborescence.specs.Search.{Tree, tree_worth, Sets, leads, Leader, Into, Covers, arcs_worth, Opt, merged, raised, Union, Start, Merge, End, None}
+use Rattle.arborescence.specs.Search.{Tree, tree_worth, Sets, leads, Leader, Into, Covers, Opt, merged, raised, Union, Start, Merge, End, None}
 use Rattle.weight.proofs.Worths.{plus_none, at_most_trans, at_most_plus, at_most_cancel, minus_plus_over}
 use Rattle.arborescence.proofs.Sums.{sorts, at_most_eq, sum_le, sum_same, sum_split, sum_le_but}
 use Rattle.arborescence.proofs.Merged.{leader_from, entry, some_entry, at_s, not_in_S, same_side, finer, merged_sum}

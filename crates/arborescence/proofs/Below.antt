@@ -1,13 +1,13 @@
 -- The search's arcs make a tree that is worth what the search says
 use Rattle.std.proofs.Common.{◌≡◌, ℕ, zero, suc, ◌≤◌, Bool, true, false, cond, not, ◌&&◌, eqb, ◌⊎◌, [], sym, refl, ap, ◌∙◌, subst, inl, inr, arith}
-use Rattle.std.proofs.lemmas.Bool.{cases_eq, cases_Bool, eq-eqb, ne_eqb, and_parts, and_from, cond-true, cond-false, both_ways}
+use Rattle.std.proofs.lemmas.Bool.{cases_eq, cases_Bool, eq-eqb, ne_eqb, and_parts, and_from, cond-true, both_ways}
 use Rattle.weight.specs.Worth.{Worth, plus, minus, AtMost}
 use Rattle.tree.specs.Chains.{Word, up, Reaches}
 use Rattle.arborescence.specs.Sum.{sum_if}
 use Rattle.arborescence.specs.Search.{Tree, tree_worth, Sets, leads, Leader, Into, arcs_worth, Built, merged, raised, Union, Circle, Unmerge, Bottom}
-use Rattle.weight.proofs.Worths.{plus_none, plus_comm, at_most_trans, at_most_plus, at_most_cancel, minus_plus_under}
-use Rattle.arborescence.proofs.Sums.{sorts, at_most_eq, sum_same, sum_split, sum_le_but}
-use Rattle.arborescence.proofs.Merged.{leader_from, closed, at_s, in_S, not_in_S, same_side, coarser, finer, rep_le, merged_sets, merged_sum}
+use Rattle.weight.proofs.Worths.{plus_none, at_most_trans, at_most_plus, at_most_cancel, minus_plus_under}
+use Rattle.arborescence.proofs.Sums.{sorts, sum_same, sum_split, sum_le_but}
+use Rattle.arborescence.proofs.Merged.{leader_from, at_s, in_S, not_in_S, same_side, coarser, finer, rep_le, merged_sets, merged_sum}
 
 -- goal ≤ (x + k') + o, k' + b ≤ k + t, t + (x + k) ≤ b + a: goal ≤ a + o
 weigh : (g a o b x k t k' : Worth) → AtMost g (plus (plus x k') o) → AtMost (plus k' b) (plus k t) → AtMost (plus t (plus x k)) (plus b a) → AtMost g (plus a o)

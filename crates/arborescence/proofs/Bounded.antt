@@ -1,4 +1,4 @@
-use Rattle.std.proofs.Common.{◌≡◌, ℕ, zero, suc, ◌+◌, ◌-◌, ◌*◌, ◌≤◌, Bool, true, false, cond, not, ◌&&◌, ◌⊎◌, [], sym, refl, ap, ◌∙◌, subst, inl, inr, arith}
+use Rattle.std.proofs.Common.{◌≡◌, ℕ, zero, suc, ◌+◌, ◌-◌, ◌*◌, ◌≤◌, Bool, true, false, cond, ◌&&◌, ◌⊎◌, [], sym, refl, ◌∙◌, inl, inr, arith}
 use Rattle.std.proofs.lemmas.Bool.{cases_Bool, eq-eqb, and_parts, and_from, cond-true, cond-false}
 use Rattle.weight.specs.Worth.{Worth, plus, minus, AtMost, Within}
 use Rattle.tree.specs.Chains.{Word}
@@ -8,7 +8,7 @@ use Rattle.arborescence.specs.Bounds.{Sized, merged_size, SizedMerge}
 use Rattle.weight.proofs.Worths.{at_most_cancel, minus_plus_under, minus_plus_over, within_plus, within_more, within_like}
 use Rattle.arborescence.proofs.Totals.{but}
 use Rattle.arborescence.proofs.Sums.{sorts, sum_out, count_out, count_split}
-use Rattle.arborescence.proofs.Merged.{leader_from, in_S, not_in_S, merged_count}
+use Rattle.arborescence.proofs.Merged.{leader_from, not_in_S, merged_count}
 
 pub within_sum : (m : ℕ) (p : ℕ → Bool) (f : ℕ → Worth) (size : ℕ → ℕ) (n : ℕ) → ((w : ℕ) → Word n w → p w ≡ true → Within (m * size w) (f w)) → Within (m * count_if p size n) (sum_if p f n)
 within_sum m p f size zero h = tt

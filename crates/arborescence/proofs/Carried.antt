@@ -1,7 +1,5 @@
-use Rattle.std.proofs.Common.{◌≡◌, ℕ, ◌≤◌, Bool, true, false, cond, ◌⊎◌, sym, refl, ap, ◌∙◌, subst, inl, inr}
+use Rattle.std.proofs.Common.{◌≡◌, ℕ, ◌≤◌, true, false, ◌⊎◌, sym, ap, ◌∙◌, inl, inr}
 use Rattle.std.proofs.lemmas.Bool.{cases_Bool, both_ways, cond-false}
-use Rattle.weight.specs.Worth.{Worth}
-use Rattle.tree.specs.Chains.{Word}
 use Rattle.arborescence.specs.Search.{merged, raised, Kept}
 use Rattle.arborescence.proofs.Merged.{in_S, not_in_S, same_side, finer}
 

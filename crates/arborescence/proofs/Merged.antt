@@ -1,6 +1,6 @@
 -- What both ways of a merge share: the merged sets, and sums over their leaders
-use Rattle.std.proofs.Common.{◌≡◌, ℕ, ◌+◌, ◌≤◌, Bool, true, false, cond, not, ◌&&◌, eqb, leb, ◌⊎◌, [], sym, refl, ap, ◌∙◌, subst, inl, inr, add_assoc, add_comm, zero-add, arith}
-use Rattle.std.proofs.lemmas.Bool.{cases_eq, cases_Bool, both_ways, eq-eqb, ne_eqb, eqb-true, eqb-false, leb-true, and_parts, and_from, and_right, not-true, not_from_true, le-leb, cond-true, cond-false}
+use Rattle.std.proofs.Common.{◌≡◌, ℕ, ◌+◌, ◌≤◌, Bool, true, false, not, ◌&&◌, eqb, leb, ◌⊎◌, [], sym, refl, ap, ◌∙◌, inl, inr, add_assoc, add_comm, zero-add, arith}
+use Rattle.std.proofs.lemmas.Bool.{cases_eq, cases_Bool, both_ways, eq-eqb, eqb-true, leb-true, and_parts, and_from, and_right, not-true, not_from_true, le-leb, cond-true, cond-false}
 use Rattle.std.proofs.lemmas.Bool.Decides.{nat_tests}
 use Rattle.weight.specs.Worth.{Worth, plus}
 use Rattle.tree.specs.Chains.{Word}

@@ -1,19 +1,19 @@
-use Rattle.std.proofs.Common.{◌≡◌, ℕ, zero, suc, ◌+◌, ◌-◌, ◌<◌, ◌≤◌, Bool, true, false, cond, ◌&&◌, T, eqb, leb, ◌⊎◌, List, [], ◌∷◌, map, length, get_or, ℤ, pos, negsuc, ◌+ℤ◌, neg_ℤ, ◌<ℤ◌, sym, refl, ap, ◌∙◌, subst, inl, inr, add_assoc, add_comm, zero-add, arith}
+use Rattle.std.proofs.Common.{◌≡◌, ℕ, zero, suc, ◌+◌, ◌<◌, ◌≤◌, Bool, true, false, cond, ◌&&◌, T, eqb, leb, ◌⊎◌, List, [], ◌∷◌, map, length, get_or, pos, negsuc, ◌+ℤ◌, neg_ℤ, ◌<ℤ◌, sym, refl, ap, ◌∙◌, inl, inr, add_assoc, add_comm, zero-add, arith}
 use Rattle.std.specs.List.{range_with_len}
 use Rattle.std.proofs.lemmas.Int.{ints}
-use Rattle.std.proofs.lemmas.Bool.{cases_eq, cases_Bool, eq-eqb, ne_eqb, eqb-true}
+use Rattle.std.proofs.lemmas.Bool.{cases_eq, eq-eqb, ne_eqb, eqb-true}
 use Rattle.std.proofs.lemmas.Bool.Decides.{nat_tests}
 use Rattle.std.proofs.lemmas.List.FromFn.{length-map-range_with_len, get_or-map-range_with_len}
-use Rattle.weight.specs.Worth.{Worth, plus, leads, at_most, AtMost}
-use Rattle.tree.specs.Chains.{Word, up, head_of, Reaches, RunsIntoCycle}
-use Rattle.arborescence.specs.Sum.{sum_if, count_if}
+use Rattle.weight.specs.Worth.{Worth, plus, at_most, AtMost}
+use Rattle.tree.specs.Chains.{Word, up, head_of, Reaches}
+use Rattle.arborescence.specs.Sum.{count_if}
 use Rattle.arborescence.specs.Search.{Tree, tree_worth}
 use Rattle.arborescence.specs.Heads.{TreeOver, worth_from, rooted, OneRoot, Single, Read, Written, BestSingle}
 use Rattle.weight.proofs.Worths.{plus_none, plus_assoc, plus_left_comm, leads_out}
 use Rattle.tree.proofs.Chains.{enters, arrives, never_again}
 use Rattle.arborescence.proofs.Totals as totals
 use Rattle.arborescence.proofs.Totals.{but}
-use Rattle.arborescence.proofs.Sums.{sum_same, count_out}
+use Rattle.arborescence.proofs.Sums.{count_out}
 
 on_root : (ℕ → ℕ) → ℕ → ℕ
 on_root head n = count_if (λ w. eqb (head w) 0) (λ w. 1) n

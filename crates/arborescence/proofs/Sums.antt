@@ -1,5 +1,5 @@
 -- Sums of worths over the words 1..n that pass a test
-use Rattle.std.proofs.Common.{◌≡◌, ℕ, zero, suc, ◌+◌, Bool, true, false, cond, not, ◌&&◌, eqb, ◌⊎◌, [], sym, refl, ap, ◌∙◌, subst, inl, inr, add_assoc, add_comm, zero-add, arith}
+use Rattle.std.proofs.Common.{◌≡◌, ℕ, zero, suc, ◌+◌, Bool, true, false, cond, not, ◌&&◌, eqb, [], refl, subst, add_assoc, add_comm, zero-add, arith}
 use Rattle.std.proofs.lemmas.Bool.{eqb-false, and_parts, not-true}
 use Rattle.weight.specs.Worth.{Worth, plus, AtMost}
 use Rattle.tree.specs.Chains.{Word}

@@ -1,7 +1,7 @@
-use Rattle.std.proofs.Common.{◌≡◌, ℕ, Bool, true, [], refl}
-use Rattle.weight.specs.Worth.{Worth, plus, AtMost}
+use Rattle.std.proofs.Common.{refl}
+use Rattle.weight.specs.Worth.{Worth, plus}
 use Rattle.arborescence.specs.Sum.{sum_if}
-use Rattle.arborescence.specs.Search.{Tree, tree_worth, Sets, leads, Leader, Built, Good, GoodStart, GoodMerge, BestTree}
+use Rattle.arborescence.specs.Search.{leads, Built, GoodStart, GoodMerge, BestTree}
 use Rattle.weight.proofs.Worths.{at_most_trans}
 use Rattle.arborescence.proofs.Sums.{sum_le}
 use Rattle.arborescence.proofs.Merged.{leader_from, merged_sets}

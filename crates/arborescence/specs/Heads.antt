@@ -1,5 +1,5 @@
 -- Trees as lists of heads, with one word on the root
-use Rattle.std.specs.Prelude.{◌≡◌, ℕ, suc, ◌≤◌, Bool, true, false, cond, List, [], ◌∷◌, pos, negsuc, ◌==◌}
+use Rattle.std.specs.Prelude.{◌≡◌, ℕ, suc, ◌≤◌, Bool, true, cond, List, [], ◌∷◌, pos, negsuc, ◌==◌}
 use Rattle.weight.specs.Worth.{Worth, plus, AtMost}
 use Rattle.tree.specs.Chains.{Word, head_of}
 use Rattle.tree.specs.Trees.{SingleRootTree}

@@ -1,10 +1,9 @@
 // The memory of a sheet of up to forty words, and the calls that work in it.
-use candidate::Candidate;
 use ranking::{Ranking, Taken};
 use refusal::Refusal;
 use run::{Call, Turn};
 use search::Node;
-use sheet::Sheet;
+use sheet::{Candidate, Sheet};
 use weight::{Kind, Opens, Root};
 
 // Every part of the memory, long enough for forty words.

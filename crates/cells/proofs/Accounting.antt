@@ -1,22 +1,22 @@
 -- The steps of a ranking.
-use Rattle.std.proofs.Common.{◌≡◌, ℕ, zero, suc, ◌+◌, ◌<◌, ◌≤◌, Bool, true, false, cond, not, ◌&&◌, ◌||◌, eqb, leb, ◌⊎◌, List, [], ◌∷◌, length, Decides, count_by, sym, refl, ap, ◌∙◌, subst, inl, inr, arith}
+use Rattle.std.proofs.Common.{◌≡◌, ℕ, zero, suc, ◌+◌, ◌<◌, ◌≤◌, Bool, true, false, cond, not, ◌&&◌, leb, ◌⊎◌, List, [], ◌∷◌, length, Decides, sym, refl, ap, ◌∙◌, subst, inl, inr, arith}
 use Rattle.std.specs.List.Sorted.{IsPermutation}
 use Rattle.std.specs.List.{AllByRecursion as All}
 use Rattle.std.specs.Str.{bytes_eq}
 use Rattle.std.proofs.ByRecursion.{All-weaker, all_shuffled}
 use Rattle.std.proofs.lemmas.List.Sorted.{sum_by-IsPermutation}
 use Rattle.std.proofs.lemmas.Slice.Eq.{bytes_eq-Decides}
-use Rattle.std.proofs.lemmas.Bool.{cases_Bool, cases_lt, not-false, le-leb, lt-leb, leb-true, leb-false}
+use Rattle.std.proofs.lemmas.Bool.{cases_Bool, cases_lt, not-false, le-leb, lt-leb, leb-true}
 use Rattle.std.proofs.lemmas.Bool.Decides.{nat_tests, same_from_decides, Decides-like}
 use Rattle.weight.specs.Worth.{Worth, at_most, AtMost}
-use Rattle.tree.specs.Chains.{Word, head_of}
+use Rattle.tree.specs.Chains.{head_of}
 use Rattle.weight.proofs.Worths.{at_most_refl, at_most_trans}
 use Rattle.arborescence.specs.Heads.{TreeOver, worth_from}
 use Rattle.queue.specs.Heap.{Greatest, Least}
 use Rattle.cells.specs.Cells.{InCell, bans_at, apart_at, in_cell, pending}
 use Rattle.cells.specs.Accounts.{Cell, Among, times, holds, heavier, BestOfCell, BestOfSubCell, Next, homes, over, Accounted}
 use Rattle.cells.specs.Steps.{Steps, AllSteps}
-use Rattle.cells.proofs.Parting.{apart_le, apart_some, same_all, apart_all, same_before, in_cell_decides, split}
+use Rattle.cells.proofs.Parting.{same_all, apart_all, same_before, in_cell_decides, split}
 use Rattle.cells.proofs.Counts.{one_if, none_if, as_many, count_cons, count_all, counted, times_cons, among_times, times_among, test_at_most, at_most_test}
 
 all_both : {X : Type 0} (P Q : X → Type 0) (xs : List X) → All P xs → All Q xs → All (λ x. P x × Q x) xs

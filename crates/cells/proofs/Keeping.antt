@@ -1,13 +1,9 @@
 -- The trees of the kept arcs.
-use Rattle.std.proofs.Common.{◌≡◌, ℕ, zero, suc, ◌+◌, ◌<◌, ◌≤◌, Bool, true, false, cond, not, ◌&&◌, ◌||◌, eqb, ltb, leb, ◌⊎◌, List, [], ◌∷◌, length, sym, refl, ap, ◌∙◌, subst, inl, inr, arith}
-use Rattle.std.proofs.lemmas.Bool.{and_parts, and_from, cases_order, lt-ltb, eq-eqb, eqb-true, not-true}
+use Rattle.std.proofs.Common.{◌≡◌, ℕ, zero, suc, ◌<◌, Bool, true, false, cond, not, ◌&&◌, eqb, ltb, sym, refl, ◌∙◌, subst, arith}
+use Rattle.std.proofs.lemmas.Bool.{and_parts, and_from}
 use Rattle.std.proofs.lemmas.Bool.Decides.{nat_tests}
-use Rattle.weight.specs.Worth.{Worth, AtMost}
 use Rattle.tree.specs.Chains.{Word, head_of}
-use Rattle.arborescence.specs.Heads.{TreeOver, worth_from}
-use Rattle.cells.specs.Cells.{InCell, bans_at}
-use Rattle.cells.specs.Accounts.{Cell, BestOfSubCell}
-use Rattle.cells.specs.Kept.{kept_arcs, KeptTrees, SubSearched}
+use Rattle.cells.specs.Kept.{KeptTrees, SubSearched}
 
 -- one arc: d is the dependent, h its head, g its head in `heads`, b whether h is banned at p
 before_p : (d p h g : ℕ) (b : Bool) → d < p → cond (ltb d p) (eqb h g) (not (eqb d p && b)) ≡ true → h ≡ g

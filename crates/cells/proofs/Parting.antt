@@ -1,12 +1,10 @@
 -- The partition of a cell.
 use Rattle.std.proofs.Common.{◌≡◌, ℕ, zero, suc, ◌+◌, ◌<◌, ◌≤◌, Bool, true, false, cond, not, ◌&&◌, ◌||◌, eqb, leb, ◌⊎◌, List, [], ◌∷◌, length, get_or, Decides, sym, refl, ap, ◌∙◌, subst, inl, inr, arith}
-use Rattle.std.specs.Str.{bytes_eq}
 use Rattle.std.proofs.lemmas.List.{ext_get_or}
-use Rattle.std.proofs.lemmas.Bool.{cases_eq, cases_lt, cases_order, cases_Bool, eqb-true, eqb-false, eq-eqb, ne_eqb, le-leb, lt-leb, leb-true, and_parts, not-true, not_from_false, or_parts, or_from, and_left, and_right, and_from, false≢true, true≢false, both_ways}
-use Rattle.std.proofs.lemmas.Bool.Decides.{nat_tests, same_from_decides, Decides-like}
-use Rattle.std.proofs.lemmas.Slice.Eq.{bytes_eq-Decides}
-use Rattle.tree.specs.Chains.{Word, head_of}
-use Rattle.cells.specs.Cells.{InCell, bans_at, InSubCell, FirstApart, Partition, Parts, alike, apart_at, in_cell, pending}
+use Rattle.std.proofs.lemmas.Bool.{cases_eq, cases_lt, cases_order, eqb-true, eqb-false, eq-eqb, ne_eqb, le-leb, leb-true, and_parts, not-true, not_from_false, or_parts, or_from, and_left, and_right, and_from}
+use Rattle.std.proofs.lemmas.Bool.Decides.{nat_tests}
+use Rattle.tree.specs.Chains.{head_of}
+use Rattle.cells.specs.Cells.{InCell, bans_at, InSubCell, FirstApart, Parts, alike, apart_at, in_cell, pending}
 
 -- ---- the first place where two lists differ
 pub alike_same : (xs ys : List ℕ) (i : ℕ) → i < alike xs ys → get_or xs i 0 ≡ get_or ys i 0

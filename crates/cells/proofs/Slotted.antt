@@ -1,14 +1,11 @@
 -- The steps over slots.
-use Rattle.std.proofs.Common.{◌≡◌, ℕ, zero, suc, ◌+◌, ◌-◌, ◌<◌, ◌≤◌, Bool, true, false, List, [], ◌∷◌, length, take, sym, refl, ap, ◌∙◌, subst, arith}
-use Rattle.std.specs.List.{AllByRecursion as All}
+use Rattle.std.proofs.Common.{◌≡◌, ℕ, suc, ◌+◌, ◌-◌, false, List, ◌∷◌, length, take, sym, subst, arith}
 use Rattle.std.proofs.lemmas.List.{length-take-le}
 use Rattle.std.proofs.lemmas.List.Sorted.{length_permutation}
 use Rattle.std.proofs.ByRecursion.{all_shuffled}
 use Rattle.weight.specs.Worth.{Worth}
 use Rattle.arborescence.specs.Heads.{TreeOver, worth_from}
-use Rattle.queue.specs.Heap.{Ordered}
-use Rattle.queue.specs.Calls.{Pushed, Popped, Dropped}
-use Rattle.cells.specs.Accounts.{Cell, heavier, BestOfSubCell, Next, Accounted}
+use Rattle.cells.specs.Accounts.{Cell, heavier, Accounted}
 use Rattle.cells.specs.Steps.{Steps}
 use Rattle.cells.specs.Slots.{SlotSteps, AllSlotSteps}
 use Rattle.cells.proofs.Accounting.{steps}

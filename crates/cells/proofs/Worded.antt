@@ -1,17 +1,13 @@
 -- What the counts say in words.
-use Rattle.std.proofs.Common.{◌≡◌, ℕ, zero, suc, ◌+◌, ◌<◌, ◌≤◌, Bool, true, false, cond, eqb, ◌⊎◌, List, [], ◌∷◌, length, get_or, count_by, sym, refl, ap, ◌∙◌, subst, inl, inr, arith}
-use Rattle.std.specs.List.Sorted.{IsPermutation}
-use Rattle.std.specs.List.{swap, AllByRecursion as All}
-use Rattle.std.proofs.lemmas.List.Edits.{Swapped, swapped_from_swap, length-swap}
-use Rattle.std.proofs.lemmas.List.Sorted.{IsPermutation-keeps}
+use Rattle.std.proofs.Common.{◌≡◌, ℕ, zero, suc, ◌+◌, ◌<◌, ◌≤◌, Bool, true, false, cond, ◌⊎◌, List, [], ◌∷◌, length, get_or, count_by, refl, inl, inr, arith}
+use Rattle.std.specs.List.{AllByRecursion as All}
 use Rattle.std.proofs.lemmas.List.Sums.{get_or-le-sum_by}
-use Rattle.std.proofs.lemmas.Bool.{cases_Bool, cases_lt, cases_eq, cases_order, both_ways, eq-eqb, ne_eqb}
-use Rattle.std.proofs.lemmas.Bool.Decides.{nat_tests}
+use Rattle.std.proofs.lemmas.Bool.{cases_Bool, cases_lt, cases_order}
 use Rattle.weight.specs.Worth.{Worth}
 use Rattle.arborescence.specs.Heads.{TreeOver, worth_from}
 use Rattle.cells.specs.Cells.{pending}
 use Rattle.cells.specs.Accounts.{Cell, Among, times, holds, homes, over, Accounted}
-use Rattle.cells.specs.Words.{EachTwo, InWords, Worded}
+use Rattle.cells.specs.Words.{InWords, Worded}
 use Rattle.cells.proofs.Counts.{one_if, none_if, count_cons, among_times, times_among}
 
 module _ {X : Type 0} (p : X → Bool) where

@@ -1,6 +1,6 @@
 -- Cells of trees. A tree is its list of heads, one for each word. A cell is given by heads, a word `from` and a test of banned heads:
 -- it has the trees with these heads at the words before `from`, and at `from` a head that is not banned.
-use Rattle.std.specs.Prelude.{◌≡◌, ℕ, zero, suc, ◌<◌, ◌≤◌, Bool, true, false, cond, not, ◌&&◌, ◌||◌, List, [], ◌∷◌, length, ◌==◌, ◌≢◌, nat_le}
+use Rattle.std.specs.Prelude.{◌≡◌, ℕ, suc, ◌<◌, ◌≤◌, Bool, false, cond, not, ◌&&◌, ◌||◌, List, [], ◌∷◌, length, ◌==◌, ◌≢◌, nat_le}
 use Rattle.tree.specs.Chains.{Word, head_of}
 
 pub record InCell (heads : List ℕ) (from : ℕ) (banned : ℕ → Bool) (t : List ℕ) : Type 0 where

@@ -1,5 +1,5 @@
 -- The arcs that a search for a sub-cell may take
-use Rattle.std.specs.Prelude.{◌≡◌, ℕ, ◌≤◌, Bool, cond, not, ◌&&◌, List, ◌==◌, nat_lt}
+use Rattle.std.specs.Prelude.{◌≡◌, ℕ, Bool, cond, not, ◌&&◌, List, ◌==◌, nat_lt}
 use Rattle.weight.specs.Worth.{Worth, AtMost}
 use Rattle.tree.specs.Chains.{Word, head_of}
 use Rattle.arborescence.specs.Heads.{TreeOver, worth_from}

@@ -1,10 +1,10 @@
 -- The steps where the waiting candidates stand in slots, in heap order: by what the priority list's functions say
-use Rattle.std.specs.Prelude.{◌≡◌, ℕ, zero, suc, ◌+◌, ◌-◌, ◌<◌, ◌≤◌, Bool, true, false, List, [], ◌∷◌, length, take}
+use Rattle.std.specs.Prelude.{ℕ, suc, ◌+◌, ◌-◌, ◌<◌, ◌≤◌, Bool, List, ◌∷◌, length, take}
 use Rattle.weight.specs.Worth.{Worth}
 use Rattle.arborescence.specs.Heads.{TreeOver, worth_from}
 use Rattle.queue.specs.Heap.{Ordered}
 use Rattle.queue.specs.Calls.{Pushed, Popped, Dropped}
-use Rattle.cells.specs.Accounts.{Cell, Among, heavier, BestOfSubCell, Next, Accounted}
+use Rattle.cells.specs.Accounts.{Cell, heavier, BestOfSubCell, Next, Accounted}
 
 module _ (n : ℕ) (Tree : List ℕ → Type 0) (value : List ℕ → Worth) {X : Type 0} (view : X → Cell) (limit : ℕ) where
   -- xs are the slots before, of which len are used, and ys the slots after

@@ -1,9 +1,7 @@
 -- The steps of a ranking, and what they keep
-use Rattle.std.specs.Prelude.{◌≡◌, ℕ, zero, suc, ◌+◌, ◌<◌, ◌≤◌, Bool, true, false, cond, not, List, [], ◌∷◌, length}
-use Rattle.std.specs.List.{AllByRecursion as All}
+use Rattle.std.specs.Prelude.{◌≡◌, ℕ, suc, ◌+◌, ◌<◌, ◌≤◌, Bool, false, List, [], ◌∷◌, length}
 use Rattle.std.specs.List.Sorted.{IsPermutation}
-use Rattle.weight.specs.Worth.{Worth, at_most, AtMost}
-use Rattle.tree.specs.Chains.{Word, head_of}
+use Rattle.weight.specs.Worth.{Worth}
 use Rattle.arborescence.specs.Heads.{TreeOver, worth_from}
 use Rattle.queue.specs.Heap.{Greatest, Least}
 use Rattle.cells.specs.Cells.{InCell, bans_at}

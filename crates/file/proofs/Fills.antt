@@ -1,5 +1,5 @@
 -- From the frame through the opening to the records.
-use Rattle.std.proofs.Common.{◌≡◌, ℕ, ◌+◌, ◌-◌, ◌*◌, ◌/◌, ◌≤◌, Bool, true, false, ◌||◌, eqb, ltb, List, length, is_ok, Some, None, Ok, Err, Option, Result, sym, refl, ap, ◌∙◌, subst, arith}
+use Rattle.std.proofs.Common.{◌≡◌, ℕ, ◌+◌, ◌-◌, ◌*◌, ◌/◌, ◌≤◌, Bool, true, false, ◌||◌, eqb, ltb, List, is_ok, Some, None, Ok, Err, Option, Result, sym, refl, ap, ◌∙◌, subst, arith}
 use Rattle.file.proofs.Steps.{same_puts, told_err, told_ok}
 use Rattle.file.specs.Formats.{Format}
 use Rattle.file.specs.Reading.{FrameRead, frame_words, OpeningRead, ReadAs, record_count, RecordsRead}
@@ -9,7 +9,7 @@ use Rattle.file.specs.declared.fault.FileFault.{FileFault}
 use Rattle.file.specs.declared.fault.RecordFault.{RecordFault}
 use Rattle.refusal.specs.declared.Refusal.TheVariants.{WordCount, ShortMemory}
 use Rattle.refusal.specs.declared.Refusal.{Refusal}
-use Rattle.sheet.specs.Arcs.{Arcs, arcs_in, no_arcs}
+use Rattle.sheet.specs.Arcs.{arcs_in, no_arcs}
 use Rattle.sheet.specs.Calls.{Answered, Holds, memory_check, open_check, or_else, refuse_if}
 use Rattle.sheet.specs.declared.Lengths.{Lengths}
 use Rattle.sheet.specs.declared.Sheet.{Sheet}

@@ -1,5 +1,5 @@
 -- What an accepted frame says.
-use Rattle.std.proofs.Common.{◌≡◌, ℕ, ◌+◌, ◌*◌, ◌≤◌, Bool, true, false, cond, not, ◌&&◌, eqb, leb, List, length, get_or, is_ok, IfOk, Ok, Err, Result, refl, ap, arith}
+use Rattle.std.proofs.Common.{◌≡◌, ℕ, ◌+◌, ◌≤◌, Bool, true, false, cond, not, ◌&&◌, eqb, leb, List, length, get_or, is_ok, IfOk, Ok, Err, Result, refl, arith}
 use Rattle.file.specs.Frame.{kind_numbered, kind_of, length_told, told_length}
 use Rattle.file.specs.declared.fault.FileFault.TheVariants.{Version, Length}
 use Rattle.file.specs.declared.fault.FileFault.{FileFault}

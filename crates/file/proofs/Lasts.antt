@@ -1,5 +1,5 @@
 -- The last record that names an arc gives its weight.
-use Rattle.std.proofs.Common.{◌≡◌, ℕ, zero, suc, ◌+◌, ◌<◌, ◌≤◌, Bool, true, false, cond, ◌⊎◌, List, Some, None, sym, refl, ap, ◌∙◌, subst, inl, inr, arith}
+use Rattle.std.proofs.Common.{◌≡◌, ℕ, zero, suc, ◌+◌, ◌<◌, ◌≤◌, true, false, cond, ◌⊎◌, List, Some, sym, refl, ap, ◌∙◌, subst, inl, inr, arith}
 use Rattle.file.specs.Formats.{Format}
 use Rattle.file.specs.Records.{LastStands, names, put_record, put_records, record_place}
 use Rattle.sheet.specs.Arcs.{Arcs, no_arcs}

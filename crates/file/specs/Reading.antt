@@ -1,5 +1,5 @@
 -- What a reader answers, and what it leaves in the memory.
-use Rattle.std.specs.Prelude.{◌≡◌, ℕ, ◌+◌, ◌-◌, ◌/◌, ◌%◌, Bool, true, cond, not, ◌||◌, List, length, is_ok, IfOk, Some, None, Ok, Err, Option, Result, ◌==◌, nat_lt, slice_index}
+use Rattle.std.specs.Prelude.{◌≡◌, ℕ, ◌+◌, ◌-◌, ◌/◌, ◌%◌, true, cond, not, ◌||◌, List, length, is_ok, IfOk, Some, None, Ok, Err, Option, Result, ◌==◌, nat_lt, slice_index}
 use Rattle.file.specs.Formats.{Format}
 use Rattle.file.specs.Frame.{kind_of}
 use Rattle.file.specs.Records.{put_records, records_check}

@@ -1,5 +1,5 @@
 -- Lines as pieces, one after another.
-use Rattle.std.proofs.Common.{◌≡◌, ℕ, ◌+◌, ◌<◌, ◌≤◌, List, [], ◌∷◌, ◌++◌, length, take, drop, set, Some, None, Ok, Err, decimal, Option, Result, sym, refl, ap, ◌∙◌, append_assoc, arith, length-append, length-drop, length-set, length-take, length-take-le, MatchOption}
+use Rattle.std.proofs.Common.{◌≡◌, ℕ, ◌+◌, ◌<◌, ◌≤◌, List, [], ◌∷◌, ◌++◌, length, take, drop, set, Some, None, Ok, Err, decimal, Option, Result, sym, ap, ◌∙◌, append_assoc, arith, length-append, length-drop, length-set, length-take, length-take-le, MatchOption}
 use Rattle.lines.proofs.Parts.{part_kept, part_shown}
 use Rattle.lines.specs.Lines.{before_weight, behind_weight, tree_text, refused_word, at_word, refused_text}
 use Rattle.refusal.specs.declared.Refusal.TheVariants.{ShortSpace}

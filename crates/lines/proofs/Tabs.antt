@@ -1,6 +1,6 @@
 -- The TABs of a tree's line stand between its fields and nowhere else.
-use Rattle.std.proofs.Common.{◌≡◌, ℕ, suc, ◌+◌, ◌%◌, ◌^◌, ◌<◌, Bool, false, cond, eqb, List, [], ◌∷◌, ◌++◌, ℤ, pos, negsuc, neg_ℤ, ◌≤ℤ◌, decimal, sym, refl, ap, ◌∙◌, append_assoc, arith}
-use Rattle.lines.specs.Lines.{before_tab, behind_tab, before_weight, behind_weight, tree_text, Fields, ToldFields}
+use Rattle.std.proofs.Common.{◌≡◌, ℕ, suc, ◌+◌, ◌%◌, ◌^◌, ◌<◌, false, eqb, List, [], ◌∷◌, ◌++◌, ℤ, pos, negsuc, neg_ℤ, ◌≤ℤ◌, decimal, refl, ap, ◌∙◌, append_assoc, arith}
+use Rattle.lines.specs.Lines.{before_tab, behind_tab, behind_weight, tree_text, ToldFields}
 use Rattle.std.proofs.lemmas.Fmt.{decimal_by_steps}
 use Rattle.std.proofs.ByRecursion.{All-append, All-push}
 use Rattle.std.proofs.lemmas.Int.{ints}
@@ -10,7 +10,6 @@ use Rattle.std.specs.List.{AllByRecursion as All}
 use Rattle.text.specs.Spaced.{spaced}
 use Rattle.weight.specs.Text.{text}
 use Rattle.weight.specs.Worth.{Worth, Within}
-use lib.Signed.{mag}
 
 abbrev NotTab : ℕ → Type 0
 NotTab b = eqb b 9 ≡ false

@@ -86,16 +86,16 @@ mod tests {
     fn shows_each_place(rt: HostRuntime) {
         let mut space = [b'.'; 9];
         assert_eq!(rt; Pair::new(1, -53).show(&mut space), Ok(5));
-        assert_eq!(rt; &space[..], b"1,-53....");
+        assert_eq!(rt; &space[..], b"1,-53....".as_slice());
         assert_eq!(rt; Score::new(-1_000_000).show(&mut space), Ok(8));
-        assert_eq!(rt; &space[..], b"-1000000.");
+        assert_eq!(rt; &space[..], b"-1000000.".as_slice());
         assert_eq!(rt; Score::new(0).show(&mut space), Ok(1));
-        assert_eq!(rt; &space[..], b"01000000.");
+        assert_eq!(rt; &space[..], b"01000000.".as_slice());
         assert_eq!(rt;
             Root::new(0, Mark::new(7, Cost::new(15))).show(&mut space),
             Ok(8)
         );
-        assert_eq!(rt; &space[..], b"-1,7,-15.");
+        assert_eq!(rt; &space[..], b"-1,7,-15.".as_slice());
     }
 
     #[test]
@@ -109,7 +109,7 @@ mod tests {
             Score::new(-1_000_000).show(&mut space),
             Err(Refusal::ShortSpace)
         );
-        assert_eq!(rt; &space[..], b"....");
+        assert_eq!(rt; &space[..], b"....".as_slice());
         let mut none: [u8; 0] = [];
         assert_eq!(rt; Score::new(0).show(&mut none), Err(Refusal::ShortSpace));
     }

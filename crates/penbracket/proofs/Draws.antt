@@ -1,6 +1,5 @@
 -- The brackets of a tree stand at the front of the space.
-use Rattle.std.proofs.Common.{◌≡◌, ℕ, ◌+◌, List, length, take, drop, Ok, sym, ap, ◌∙◌, subst, inl, inr, arith}
-use Rattle.refusal.specs.declared.Refusal.{Refusal}
+use Rattle.std.proofs.Common.{◌≡◌, ℕ, ◌+◌, List, length, take, drop, Ok, ap, ◌∙◌, inl, inr, arith}
 use Rattle.std.proofs.lemmas.List.{take_at}
 use Rattle.text.proofs.Places.{placed_ok}
 use Rattle.tree.specs.Brackets.{bracketed, Drawn}

@@ -5,13 +5,12 @@
 ghost use Rattle.penrank.specs.Ends.{Ends};
 ghost use Rattle.std.specs.Prelude.{◌≡◌, IfOk, vec_len};
 
-use candidate::Candidate;
 use file::{FileFault, FileKind, kind_of, read_costs, read_marks, read_scores};
 use lines::{Last, last_line, refused_line, tree_line};
 use ranking::{Ranking, begin, take};
 use refusal::Refusal;
 use search::Node;
-use sheet::Sheet;
+use sheet::{Candidate, Sheet};
 use std::alloc::{AllocError, Global};
 use std::io;
 use std::io::{ErrorKind, Read, Write};

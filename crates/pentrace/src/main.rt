@@ -8,11 +8,11 @@ ghost use Rattle.pentrace.specs.Script.{calls_in};
 ghost use Rattle.pentrace.specs.Texts.{CallText, ending_text, refusal_text, which_ranking};
 ghost use Rattle.std.specs.Prelude.{◌≡◌, [], ◌∷◌, ◌++◌, IfOk, vec_len, string_bytes, OnOk};
 
-use candidate::Candidate;
 use ranking::Taken;
 use refusal::Refusal;
 use run::{Answer, Call, Turn, run};
 use search::Node;
+use sheet::Candidate;
 use std::alloc::{AllocError, Global};
 use std::io;
 use std::io::{BufRead, BufReader};

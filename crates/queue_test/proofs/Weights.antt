@@ -1,5 +1,5 @@
 -- What came out of the waiting list, by weights.
-use Rattle.std.proofs.Common.{◌≡◌, ℕ, ◌<◌, ◌≤◌, false, ltb, List, length, take, subst, arith, ltb-false}
+use Rattle.std.proofs.Common.{◌≡◌, ltb, List, length, take, subst, arith, ltb-false}
 use Rattle.std.specs.List.Sorted.{IsPermutation}
 use Rattle.std.proofs.lemmas.List.{take_all}
 use Rattle.queue.specs.Runs.{Falls, CameOut}

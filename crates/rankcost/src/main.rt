@@ -2,11 +2,10 @@
 // The two numbers on standard input say how many lines are ranked, and how many trees are taken of each.
 #![tactic(auto)]
 
-use candidate::Candidate;
 use ranking::{begin, end, take};
 use reading::read_spaced;
 use search::Node;
-use sheet::{Sheet, open, put};
+use sheet::{Candidate, Sheet, open, put};
 use std::io;
 use std::io::{BufRead, BufReader};
 use weight::{Kind, Root, Score};

@@ -1,21 +1,20 @@
 -- The next tree of a ranking.
-use Rattle.std.proofs.Common.{◌≡◌, ℕ, zero, suc, ◌+◌, ◌-◌, ◌<◌, ◌≤◌, Bool, false, ◌⊎◌, List, [], ◌∷◌, length, get_or, take, Some, None, Ok, Err, Option, sym, refl, ap, ◌∙◌, subst, inl, inr, arith}
-use Rattle.candidate.specs.Views.{cell, outranking}
-use Rattle.candidate.specs.declared.Candidate.{Candidate}
-use Rattle.cells.specs.Accounts.{Accounted, BestOfCell, Next, Among}
+use Rattle.std.proofs.Common.{◌≡◌, ℕ, zero, suc, ◌+◌, ◌-◌, ◌<◌, ◌≤◌, false, List, [], ◌∷◌, length, get_or, take, Some, None, Ok, sym, refl, ap, ◌∙◌, subst, inl, inr, arith}
+use Rattle.sheet.specs.Candidates.{cell, outranking}
+use Rattle.sheet.specs.declared.Candidate.{Candidate}
+use Rattle.cells.specs.Accounts.{Accounted, BestOfCell, Next}
 use Rattle.cells.specs.Cells.{InCell}
 use Rattle.queue.specs.Calls.{Popped}
-use Rattle.queue.specs.Heap.{Ordered}
 use Rattle.ranking.proofs.Splits.{listed, slotted}
 use Rattle.ranking.specs.Memory.{HoldsTrees, Waits}
-use Rattle.ranking.specs.Steps.{BestHeld, Sought, Comes}
+use Rattle.ranking.specs.Steps.{Sought, Comes}
 use Rattle.ranking.specs.Takes.{NoneHanded}
 use Rattle.ranking.specs.Trees.{TreeOf, tree_worth}
 use Rattle.refusal.specs.declared.Refusal.TheVariants.{NoTree, NoMore}
 use Rattle.sheet.specs.Arcs.{Arcs}
 use Rattle.std.proofs.lemmas.List.{nil_from_length}
 use Rattle.std.specs.List.{slice_get}
-use Rattle.tree.specs.Chains.{Word, head_of}
+use Rattle.tree.specs.Chains.{head_of}
 use Rattle.weight.specs.Worth.{Worth}
 use Rattle.word_set.proofs.Sets.{in_set_empty}
 use Rattle.word_set.specs.Bits.{in_set}

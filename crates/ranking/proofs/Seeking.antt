@@ -1,12 +1,12 @@
 -- A search with some words held and some heads barred finds the heaviest tree of a cell.
 use Rattle.std.proofs.Common.{◌≡◌, ℕ, ◌+◌, ◌-◌, ◌*◌, ◌<◌, ◌≤◌, Bool, true, false, cond, not, ◌&&◌, ◌||◌, eqb, ltb, ◌⊎◌, List, length, get_or, take, Some, None, Option, sym, refl, ap, ◌∙◌, subst, inl, inr, arith}
-use Rattle.arborescence.specs.Heads.{TreeOver, worth_from}
-use Rattle.candidate.specs.declared.Candidate.{Candidate}
+use Rattle.arborescence.specs.Heads.{TreeOver}
+use Rattle.sheet.specs.declared.Candidate.{Candidate}
 use Rattle.cells.proofs.Counts.{at_most_test}
 use Rattle.cells.proofs.Keeping.{kept_trees}
 use Rattle.cells.specs.Cells.{InCell}
 use Rattle.cells.specs.Kept.{kept_arcs}
-use Rattle.ranking.proofs.Sheets.{over_like, in_sets, worth_is, entries_are, tree_worth_is}
+use Rattle.ranking.proofs.Sheets.{over_like, in_sets, entries_are, tree_worth_is}
 use Rattle.ranking.specs.Memory.{HoldsArcs}
 use Rattle.ranking.specs.Steps.{BestHeld, Sought}
 use Rattle.ranking.specs.Trees.{stands, TreeOf, tree_worth}
@@ -18,7 +18,7 @@ use Rattle.std.proofs.lemmas.Bool.Decides.{nat_tests}
 use Rattle.tree.specs.Chains.{Word, head_of}
 use Rattle.weight.proofs.Worths.{outweighs_when}
 use Rattle.weight.specs.Range.{Range}
-use Rattle.weight.specs.Worth.{Worth, at_most, AtMost, Outweighs}
+use Rattle.weight.specs.Worth.{Worth, at_most, Outweighs}
 use Rattle.word_set.specs.Bits.{in_set}
 
 -- one arc: a says whether it stands, e whether h is the held head of d, b whether h is barred; l words are held

@@ -1,10 +1,8 @@
 -- What follows from what a take tells.
-use Rattle.std.proofs.Common.{◌≡◌, ℕ, suc, ◌<◌, true, false, ◌⊎◌, List, [], length, Ok, Err, Result, sym, refl, ◌∙◌, subst, inl, inr, arith}
+use Rattle.std.proofs.Common.{◌≡◌, ℕ, true, false, ◌⊎◌, List, length, Ok, Err, sym, refl, ◌∙◌, subst, inl, inr, arith}
 use Rattle.cells.proofs.Counts.{at_most_test}
-use Rattle.cells.specs.Accounts.{Among}
-use Rattle.ranking.specs.Takes.{Untaken, HandedOut, NoneHanded, Tells, FirstIsHeaviest, SameAnswer, Settled}
-use Rattle.ranking.specs.Trees.{TreeOf, tree_worth}
-use Rattle.ranking.specs.declared.state.Taken.{Taken}
+use Rattle.ranking.specs.Takes.{HandedOut, NoneHanded, FirstIsHeaviest, Settled}
+use Rattle.ranking.specs.Trees.{tree_worth}
 use Rattle.refusal.specs.declared.Refusal.TheVariants.{WordCount, ShortMemory, NoDependent, HeadAbove, SelfLoop, NoEntry, AbsentArc, NoTree, NoMore, Fifty, ShortSpace, NotATree}
 use Rattle.refusal.specs.declared.Refusal.{Refusal}
 use Rattle.sheet.specs.Arcs.{Arcs}

@@ -1,14 +1,14 @@
 -- The steps by which the cell of the tree taken last is split.
-use Rattle.std.proofs.Common.{◌≡◌, ℕ, zero, suc, ◌+◌, ◌-◌, ◌<◌, ◌≤◌, Bool, true, false, ◌&&◌, ◌||◌, eqb, ltb, ◌⊎◌, List, [], ◌∷◌, length, get_or, take, drop, Some, None, Option, sym, refl, ap, ◌∙◌, subst, inl, inr, arith}
-use Rattle.candidate.specs.Views.{cell, outranking}
-use Rattle.candidate.specs.declared.Candidate.{Candidate}
+use Rattle.std.proofs.Common.{◌≡◌, ℕ, zero, suc, ◌+◌, ◌-◌, ◌<◌, ◌≤◌, Bool, true, false, ◌&&◌, ◌||◌, eqb, ltb, List, length, get_or, take, drop, Some, None, sym, refl, ap, ◌∙◌, subst, inl, inr, arith}
+use Rattle.sheet.specs.Candidates.{cell, outranking}
+use Rattle.sheet.specs.declared.Candidate.{Candidate}
 use Rattle.cells.proofs.Accounting.{steps}
 use Rattle.cells.proofs.Slotted.{slot_steps}
-use Rattle.cells.specs.Accounts.{Accounted, BestOfCell, BestOfSubCell, Next, Among}
+use Rattle.cells.specs.Accounts.{Accounted, BestOfSubCell}
 use Rattle.cells.specs.Cells.{InCell, bans_at}
 use Rattle.cells.specs.Slots.{SlotSteps}
 use Rattle.cells.specs.Steps.{Steps}
-use Rattle.queue.specs.Calls.{Pushed, Popped, Dropped}
+use Rattle.queue.specs.Calls.{Popped}
 use Rattle.queue.specs.Heap.{Ordered}
 use Rattle.ranking.specs.Memory.{Waits}
 use Rattle.ranking.specs.Steps.{KeptOne, Sought, BestHeld}
@@ -18,7 +18,7 @@ use Rattle.std.proofs.lemmas.List.{get_or-take, length-take, length-take-le, dro
 use Rattle.std.proofs.lemmas.Bool.{lt-ltb, eq-eqb, ne_eqb}
 use Rattle.std.proofs.lemmas.Bool.Decides.{nat_tests}
 use Rattle.tree.specs.Chains.{Word, head_of}
-use Rattle.weight.specs.Worth.{Worth, AtMost}
+use Rattle.weight.specs.Worth.{Worth}
 use Rattle.word_set.specs.Bits.{in_set}
 
 -- ---- heads at the front of a list

@@ -1,13 +1,13 @@
 -- A take answers as the law wants, and keeps what the memory stands for.
-use Rattle.std.proofs.Common.{◌≡◌, ℕ, suc, ◌+◌, ◌-◌, ◌*◌, ◌<◌, ◌≤◌, Bool, true, false, cond, ◌||◌, eqb, ltb, ◌⊎◌, List, [], ◌∷◌, length, take, drop, set, Some, None, Ok, Err, Option, Result, sym, refl, ap, ◌∙◌, subst, inl, inr, arith}
-use Rattle.candidate.specs.Views.{cell, outranking}
-use Rattle.candidate.specs.declared.Candidate.{Candidate}
+use Rattle.std.proofs.Common.{◌≡◌, ℕ, suc, ◌+◌, ◌-◌, ◌*◌, ◌<◌, ◌≤◌, Bool, true, false, cond, eqb, ltb, ◌⊎◌, List, ◌∷◌, length, take, drop, set, Some, None, Ok, Err, Option, Result, sym, refl, ◌∙◌, subst, inl, inr, arith}
+use Rattle.sheet.specs.Candidates.{cell, outranking}
+use Rattle.sheet.specs.declared.Candidate.{Candidate}
 use Rattle.cells.specs.Accounts.{Accounted, Next}
 use Rattle.queue.specs.Heap.{Ordered}
-use Rattle.ranking.specs.Calls.{lengths_of, take_check, after_take, SameBeyond, Took}
+use Rattle.ranking.specs.Calls.{lengths_of, take_check, SameBeyond, Took}
 use Rattle.ranking.specs.Memory.{Memory, HoldsArcs, HoldsTrees, StandsFor, Waits}
 use Rattle.ranking.specs.Steps.{Comes}
-use Rattle.ranking.specs.Takes.{HandedOut, Tells, Untaken}
+use Rattle.ranking.specs.Takes.{HandedOut, Tells}
 use Rattle.ranking.specs.Trees.{TreeOf, tree_worth}
 use Rattle.ranking.specs.declared.state.Ranking.{Ranking}
 use Rattle.ranking.specs.declared.state.Taken.{Taken}
@@ -18,7 +18,7 @@ use Rattle.sheet.proofs.Tables.{passes, last_passes}
 use Rattle.sheet.specs.Arcs.{Arcs}
 use Rattle.sheet.specs.Calls.{or_else, refuse_if, too_short}
 use Rattle.sheet.specs.declared.Lengths.{Lengths}
-use Rattle.std.proofs.lemmas.List.{take-set-le, drop-set-lt}
+use Rattle.std.proofs.lemmas.List.{take-set-le}
 use Rattle.std.proofs.lemmas.Bool.{cases_eq, ltb-false, le-ltb, or_parts, eqb-false, eqb-true}
 use Rattle.weight.proofs.Worths.{outweighs_not}
 use Rattle.weight.specs.Range.{Range}

@@ -1,7 +1,7 @@
 -- What the memory of a ranking stands for
 use Rattle.std.specs.Prelude.{◌≡◌, ℕ, ◌≤◌, true, ◌⊎◌, List, [], length, take, Some}
-use Rattle.candidate.specs.Views.{cell, outranking}
-use Rattle.candidate.specs.declared.Candidate.{Candidate}
+use Rattle.sheet.specs.Candidates.{cell, outranking}
+use Rattle.sheet.specs.declared.Candidate.{Candidate}
 use Rattle.cells.specs.Accounts.{Accounted}
 use Rattle.queue.specs.Heap.{Ordered}
 use Rattle.ranking.specs.Trees.{TreeOf, tree_worth}

@@ -1,7 +1,7 @@
 -- What the steps of a take do
-use Rattle.std.specs.Prelude.{◌≡◌, ℕ, ◌+◌, ◌≤◌, ◌⊎◌, List, ◌∷◌, length, take, Some, None, Ok, Err, Option, Result}
-use Rattle.candidate.specs.Views.{outranking}
-use Rattle.candidate.specs.declared.Candidate.{Candidate}
+use Rattle.std.specs.Prelude.{◌≡◌, ℕ, ◌+◌, ◌⊎◌, List, ◌∷◌, length, take, Some, None, Ok, Err, Option, Result}
+use Rattle.sheet.specs.Candidates.{outranking}
+use Rattle.sheet.specs.declared.Candidate.{Candidate}
 use Rattle.cells.specs.Accounts.{Next}
 use Rattle.cells.specs.Cells.{InCell}
 use Rattle.queue.specs.Calls.{Pushed, Dropped}

@@ -1,5 +1,5 @@
 -- What a take tells. It is settled by the arcs that stand and by the trees taken, the latest first.
-use Rattle.std.specs.Prelude.{◌≡◌, ℕ, suc, ◌<◌, ◌≤◌, List, [], length, Ok, Err, Result}
+use Rattle.std.specs.Prelude.{◌≡◌, ℕ, suc, ◌<◌, List, [], length, Ok, Err, Result}
 use Rattle.cells.specs.Accounts.{Among}
 use Rattle.ranking.specs.Trees.{TreeOf, tree_worth}
 use Rattle.ranking.specs.declared.state.Taken.{Taken}

@@ -11,10 +11,9 @@ ghost use Rattle.search.specs.State.{Room};
 ghost use Rattle.sheet.specs.Arcs.{Arcs};
 
 use crate::splitting::{seek, split};
-use candidate::Candidate;
 use refusal::Refusal;
 use search::Node;
-use sheet::{Lengths, Sheet};
+use sheet::{Candidate, Lengths, Sheet};
 use weight::{Kind, Opens, Root};
 
 mod splitting;

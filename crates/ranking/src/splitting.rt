@@ -8,8 +8,8 @@ ghost use Rattle.sheet.specs.Arcs.{Arcs};
 ghost use Rattle.word_set.specs.Bits.{in_set};
 ghost use Rattle.tree.specs.Chains.{head_of};
 
-use candidate::Candidate;
 use search::{Node, best_tree_barring};
+use sheet::Candidate;
 use weight::{Kind, Root};
 use word_set::{either, only};
 

@@ -1,19 +1,18 @@
 -- A run grows by one turn, and what it comes to in the end.
-use Rattle.std.proofs.Common.{◌≡◌, ℕ, suc, ◌+◌, ◌-◌, ◌*◌, ◌<◌, ◌≤◌, Bool, false, ◌||◌, eqb, ltb, List, [], ◌∷◌, ◌++◌, map, reverse, length, get_or, take, drop, set, Some, None, Ok, Err, Option, sym, refl, ap, ◌∙◌, subst, arith}
-use Rattle.ranking.specs.Calls.{lengths_of, SameBeyond}
-use Rattle.ranking.specs.Memory.{Memory, HoldsArcs}
+use Rattle.std.proofs.Common.{◌≡◌, ℕ, ◌+◌, ◌<◌, ◌≤◌, Bool, false, ◌||◌, eqb, ltb, List, [], ◌∷◌, ◌++◌, map, reverse, length, get_or, take, drop, set, Some, None, Ok, Err, Option, sym, refl, ap, ◌∙◌, subst, arith}
+use Rattle.ranking.specs.Calls.{lengths_of}
+use Rattle.ranking.specs.Memory.{Memory}
 use Rattle.refusal.specs.declared.Refusal.TheVariants.{WordCount, ShortMemory, ShortSpace}
 use Rattle.refusal.specs.declared.Refusal.{Refusal}
 use Rattle.run.specs.Law.{Run, standing, taken, taken_after, ranks, ranks_after, Answers, Keeps}
 use Rattle.run.specs.Steps.{words_of, ranked, SameRest, Is, Stepped, Ran, run_check}
-use Rattle.run.specs.declared.Answer.{Answer}
 use Rattle.run.specs.declared.Call.{Call}
 use Rattle.run.specs.declared.State.TheVariants.{Open, Ranked}
 use Rattle.run.specs.declared.State.{State}
 use Rattle.run.specs.declared.Turn.{Turn}
 use Rattle.run.proofs.Turns.{same_all}
 use Rattle.sheet.proofs.Tables.{passes, last_passes}
-use Rattle.sheet.specs.Arcs.{Arcs, arcs_in, no_arcs}
+use Rattle.sheet.specs.Arcs.{arcs_in, no_arcs}
 use Rattle.sheet.specs.Calls.{refuse_if, open_check, too_short, Answered, Holds}
 use Rattle.sheet.specs.declared.Lengths.{Lengths}
 use Rattle.sheet.specs.declared.Sheet.{Sheet}

@@ -1,17 +1,12 @@
 -- A ranking that stands has handed out truly whatever it has handed out.
-use Rattle.std.proofs.Common.{◌≡◌, ℕ, ◌<◌, ◌≤◌, Bool, true, false, cond, ◌⊎◌, List, [], ◌∷◌, length, take, sym, refl, ap, ◌∙◌, subst, inl, inr, arith}
-use Rattle.cells.specs.Accounts.{Among}
+use Rattle.std.proofs.Common.{◌≡◌, ℕ, ◌<◌, ◌≤◌, Bool, true, cond, ◌⊎◌, List, [], ◌∷◌, take, sym, ap, ◌∙◌, subst, inl, inr, arith}
 use Rattle.ranking.specs.Takes.{HandedOut}
-use Rattle.ranking.specs.Trees.{TreeOf, tree_worth}
-use Rattle.ranking.specs.declared.state.Taken.{Taken}
-use Rattle.refusal.specs.declared.Refusal.TheVariants.{ShortSpace}
-use Rattle.refusal.specs.declared.Refusal.{Refusal}
-use Rattle.run.specs.Law.{Run, standing, taken, ranks, TakeAnswers, Answers, Keeps, NotAbove, TrueRanking, RanksTruly}
+use Rattle.ranking.specs.Trees.{tree_worth}
+use Rattle.run.specs.Law.{Run, standing, taken, ranks, TakeAnswers, Answers, Keeps, TrueRanking}
 use Rattle.run.specs.declared.Answer.TheVariants.{Done, Handed, Refused, Misplaced}
 use Rattle.run.specs.declared.Answer.{Answer}
 use Rattle.run.specs.declared.Call.TheVariants.{Put, Strike, Begin, Take, End}
 use Rattle.run.specs.declared.Call.{Call}
-use Rattle.run.specs.declared.Turn.{Turn}
 use Rattle.sheet.specs.Arcs.{Arcs}
 use Rattle.std.proofs.lemmas.Bool.{cases_lt}
 use Rattle.weight.specs.Range.{Range}

@@ -1,15 +1,15 @@
 -- Single turns of a run.
-use Rattle.std.proofs.Common.{◌≡◌, ℕ, ◌+◌, ◌-◌, ◌*◌, ◌<◌, ◌≤◌, min, Bool, true, false, cond, not, ◌||◌, eqb, ltb, ◌⊎◌, List, ◌∷◌, ◌++◌, length, take, drop, is_some, is_ok, Some, None, Ok, Err, Option, Result, sym, refl, ap, ◌∙◌, subst, inl, inr, arith}
-use Rattle.candidate.specs.declared.Candidate.{Candidate}
+use Rattle.std.proofs.Common.{◌≡◌, ℕ, ◌+◌, ◌*◌, ◌<◌, ◌≤◌, min, Bool, true, false, cond, not, ◌||◌, ltb, ◌⊎◌, List, ◌∷◌, ◌++◌, length, take, drop, is_some, is_ok, Some, None, Ok, Err, Option, Result, sym, refl, ap, ◌∙◌, subst, inl, inr, arith}
+use Rattle.sheet.specs.declared.Candidate.{Candidate}
 use Rattle.ranking.specs.Calls.{lengths_of, take_check, SameBeyond, Took}
 use Rattle.ranking.specs.Memory.{Memory, HoldsArcs, StandsFor}
-use Rattle.ranking.specs.Takes.{HandedOut, Tells}
+use Rattle.ranking.specs.Takes.{HandedOut}
 use Rattle.ranking.specs.declared.state.Ranking.{Ranking}
 use Rattle.ranking.specs.declared.state.Taken.{Taken}
-use Rattle.refusal.specs.declared.Refusal.TheVariants.{ShortMemory, NoEntry, AbsentArc, ShortSpace, Fifty}
+use Rattle.refusal.specs.declared.Refusal.TheVariants.{NoEntry, AbsentArc, ShortSpace}
 use Rattle.refusal.specs.declared.Refusal.{Refusal}
-use Rattle.run.specs.Law.{arcs_after, taken_after, ranks_after, answer_by, put_answer, strike_answer, TakeAnswers, Answers}
-use Rattle.run.specs.Steps.{words_of, ranked, told_by, SameRest, Is, Stepped}
+use Rattle.run.specs.Law.{arcs_after, ranks_after, answer_by, Answers}
+use Rattle.run.specs.Steps.{told_by, SameRest, Stepped}
 use Rattle.run.specs.declared.Answer.TheVariants.{Done, Handed, Refused, Misplaced}
 use Rattle.run.specs.declared.Answer.{Answer}
 use Rattle.run.specs.declared.Call.TheVariants.{Put, Strike, Begin, Take, End}
@@ -17,12 +17,12 @@ use Rattle.run.specs.declared.Call.{Call}
 use Rattle.run.specs.declared.State.TheVariants.{Open, Ranked}
 use Rattle.run.specs.declared.State.{State}
 use Rattle.search.specs.declared.family.Node.{Node}
-use Rattle.sheet.proofs.Tables.{passes, last_passes}
+use Rattle.sheet.proofs.Tables.{last_passes}
 use Rattle.sheet.specs.Arcs.{Arcs, arcs_in, with_arc, named}
 use Rattle.sheet.specs.Calls.{or_else, refuse_if, memory_check, arc_check, ends_check, put_check, strike_check, too_short, Answered, Holds}
 use Rattle.sheet.specs.declared.Sheet.{Sheet}
 use Rattle.std.proofs.lemmas.List.{take-append-le}
-use Rattle.std.proofs.lemmas.Bool.{cases_lt, cases_Bool, lt-ltb, or_parts, not-false}
+use Rattle.std.proofs.lemmas.Bool.{cases_lt, lt-ltb, or_parts, not-false}
 use Rattle.weight.specs.Range.{Range, entry_in}
 use Rattle.weight.specs.Worth.{Worth}
 use Rattle.weight.specs.declared.root.Root.{Root}

@@ -1,10 +1,10 @@
 -- What one step of a run does, and what a whole run leaves
-use Rattle.std.specs.Prelude.{◌≡◌, ℕ, ◌+◌, ◌-◌, ◌*◌, Bool, true, false, List, map, reverse, length, take, drop, Ok, Err, Option, Result, nat_lt}
+use Rattle.std.specs.Prelude.{◌≡◌, ℕ, ◌+◌, ◌*◌, Bool, true, false, List, map, reverse, length, take, drop, Ok, Err, Option, Result, nat_lt}
 use Rattle.ranking.specs.Calls.{lengths_of, SameBeyond}
 use Rattle.ranking.specs.Memory.{Memory, HoldsArcs, StandsFor}
 use Rattle.refusal.specs.declared.Refusal.TheVariants.{ShortSpace}
 use Rattle.refusal.specs.declared.Refusal.{Refusal}
-use Rattle.run.specs.Law.{Run, arcs_after, taken_after, ranks_after, standing, Answers, Keeps}
+use Rattle.run.specs.Law.{arcs_after, taken_after, ranks_after, standing, Answers, Keeps}
 use Rattle.run.specs.declared.Answer.TheVariants.{Done, Refused}
 use Rattle.run.specs.declared.Answer.{Answer}
 use Rattle.run.specs.declared.Call.{Call}

@@ -3,7 +3,7 @@
 
 ghost use Rattle.std.specs.Prelude.{◌≡◌, ℕ, ◌<◌, ◌≤◌, List, length, slice_set};
 ghost use Rattle.ranking.specs.Memory.{Memory};
-ghost use Rattle.candidate.specs.declared.Candidate.{Candidate};
+ghost use Rattle.sheet.specs.declared.Candidate.{Candidate};
 ghost use Rattle.run.specs.Law.{RanksTruly};
 ghost use Rattle.run.specs.Steps.{Ran, Stepped, run_check, told_by};
 ghost use Rattle.run.specs.declared.Call.TheVariants.{Take};
@@ -12,11 +12,10 @@ ghost use Rattle.search.specs.declared.family.Node.{Node};
 ghost use Rattle.weight.specs.declared.root.Root.{Root};
 ghost use Rattle.sheet.specs.Calls.{Answered};
 
-use candidate::Candidate;
 use ranking::{Ranking, Taken};
 use refusal::Refusal;
 use search::Node;
-use sheet::Sheet;
+use sheet::{Candidate, Sheet};
 use weight::{Opens, Root};
 
 // A call on a sheet or on its ranking. A take says how many bytes of space it is given.

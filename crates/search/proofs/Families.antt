@@ -1,9 +1,9 @@
-use Rattle.std.proofs.Common.{◌≡◌, ℕ, zero, suc, ◌+◌, ◌-◌, ◌*◌, ◌≤◌, Bool, true, false, cond, ◌⊎◌, List, [], ◌∷◌, sym, refl, ap, ◌∙◌, subst, inl, inr, arith}
+use Rattle.std.proofs.Common.{◌≡◌, ℕ, zero, suc, ◌+◌, ◌-◌, ◌*◌, ◌≤◌, Bool, true, false, ◌⊎◌, List, [], ◌∷◌, sym, refl, ap, ◌∙◌, subst, inl, inr, arith}
 use Rattle.std.proofs.lemmas.Bool.{cases_Bool, cond-true, cond-false, eq-eqb}
-use Rattle.weight.specs.Worth.{Worth, plus, AtMost, Within}
-use Rattle.tree.specs.Chains.{Word, up}
-use Rattle.arborescence.specs.Sum.{sum_if, count_if}
-use Rattle.arborescence.specs.Search.{Tree, Sets, Leader, leads, Into, Covers, Built, Good, Union, Circle, merged, raised, arcs_worth}
+use Rattle.weight.specs.Worth.{Worth, plus, Within}
+use Rattle.tree.specs.Chains.{Word}
+use Rattle.arborescence.specs.Sum.{count_if}
+use Rattle.arborescence.specs.Search.{Sets, Leader, leads, Into, Covers, Good, arcs_worth}
 use Rattle.arborescence.specs.Bounds.{Sized}
 use Rattle.weight.proofs.Worths.{plus_none, within_plus, within_more}
 use Rattle.arborescence.proofs.Sums.{at_most_eq, sum_same}
@@ -12,7 +12,7 @@ use Rattle.arborescence.proofs.Whole.{good_start, good_merge}
 use Rattle.arborescence.proofs.Carried.{kept}
 use Rattle.arborescence.proofs.Bounded.{sized_merge}
 use Rattle.word_set.specs.Bits.{in_set}
-use Rattle.search.specs.Family.{Group, entry, rep_of, from_of, best_of, add_of, size_of, Begun, Joined, Valid, Entered}
+use Rattle.search.specs.Family.{Group, rep_of, from_of, best_of, add_of, size_of, Valid, Entered}
 
 module _ (n : ℕ) (stands : ℕ → ℕ → Bool) (worth : ℕ → ℕ → Worth) (z : Worth) (nought : (h d : ℕ) → Word n d → h ≤ n → plus (worth h d) z ≡ worth h d) where
   pub id_arcs : (from to : ℕ → ℕ) → ((ℓ : ℕ) → Leader n (λ v. v) ℓ → Into n stands (λ v. v) ℓ (from ℓ) (to ℓ)) → arcs_worth n worth (λ v. v) (λ v. z) from to ≡ arcs_worth n worth (λ v. v) (λ v. []) from to

@@ -1,14 +1,14 @@
 -- From a heaviest arborescence over the root layer to a heaviest single-root tree
-use Rattle.std.proofs.Common.{◌≡◌, ℕ, zero, suc, ◌+◌, ◌-◌, ◌*◌, ◌^◌, ◌<◌, ◌≤◌, Bool, true, false, cond, eqb, ◌⊎◌, List, [], ◌∷◌, map, length, get_or, take, drop, ℤ, pos, negsuc, sym, refl, ap, ◌∙◌, subst, inl, inr, arith}
-use Rattle.std.proofs.lemmas.List.{get_or-take, get_or-drop, get_or_default, length-take-le, length-drop, same_lists}
+use Rattle.std.proofs.Common.{◌≡◌, ℕ, zero, suc, ◌+◌, ◌-◌, ◌*◌, ◌^◌, ◌≤◌, Bool, true, false, cond, eqb, List, [], ◌∷◌, length, get_or, take, drop, pos, negsuc, sym, ap, ◌∙◌, arith}
+use Rattle.std.proofs.lemmas.List.{get_or-take, get_or-drop, get_or_default, length-drop, same_lists}
 use Rattle.std.proofs.lemmas.Int.{ints}
-use Rattle.weight.specs.Range.{Range, Ranged, entry_in, limit}
-use Rattle.weight.specs.Worth.{Worth, zeros, plus, AtMost, Within, Outweighs}
+use Rattle.weight.specs.Range.{Range, Ranged, limit}
+use Rattle.weight.specs.Worth.{Worth, zeros, plus, Within}
 use Rattle.weight.proofs.Ranges.{entry_within}
 use Rattle.weight.proofs.Worths.{plus_comm, plus_none, plus_zeros, length_plus, within_more, outweighs_not}
 use Rattle.tree.specs.Chains.{Word, head_of}
 use Rattle.arborescence.specs.Search.{Tree, tree_worth}
-use Rattle.arborescence.specs.Heads.{TreeOver, worth_from, rooted, OneRoot}
+use Rattle.arborescence.specs.Heads.{TreeOver, worth_from, rooted}
 use Rattle.arborescence.proofs.Rooted.{read, single, front_of_one, one_by_front, written_as}
 use Rattle.search.specs.Arcs.{weight_at, arc_worth, Sound, Entries}
 use Rattle.search.specs.Opening.{BestOfAll}

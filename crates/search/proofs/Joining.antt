@@ -1,24 +1,18 @@
-use Rattle.std.proofs.Common.{◌≡◌, ℕ, zero, suc, ◌+◌, ◌-◌, ◌*◌, ◌^◌, ◌<◌, ◌≤◌, Bool, true, false, cond, ◌&&◌, eqb, ◌⊎◌, List, [], ◌∷◌, map, length, get_or, set, replicate, pos, Some, None, Option, sym, refl, ap, ◌∙◌, subst, inl, inr, arith}
-use Rattle.std.proofs.lemmas.List.{map-set, get_or-set_same, get_or-set_other, length-map}
-use Rattle.std.proofs.lemmas.Bool.{cases_Bool, cases_lt, both_ways, cond-true, cond-false, eq-eqb}
-use Rattle.weight.specs.Worth.{Worth, plus, minus, AtMost, Within}
-use Rattle.tree.specs.Chains.{Word, up}
-use Rattle.arborescence.specs.Sum.{sum_if, count_if}
-use Rattle.arborescence.specs.Search.{Tree, Sets, Leader, leads, Into, Covers, Union, merged, raised}
-use Rattle.arborescence.specs.Bounds.{Sized}
-use Rattle.weight.proofs.Worths.{plus_assoc, plus_zeros}
-use Rattle.arborescence.proofs.Sums.{count_out}
+use Rattle.std.proofs.Common.{◌≡◌, ℕ, zero, suc, ◌+◌, ◌<◌, Bool, true, false, cond, ◌&&◌, ◌⊎◌, List, [], ◌∷◌, map, length, get_or, Some, sym, refl, ap, ◌∙◌, subst, inl, inr, arith}
+use Rattle.std.proofs.lemmas.Bool.{cases_Bool, both_ways}
+use Rattle.weight.specs.Worth.{Worth, plus, minus, AtMost}
+use Rattle.tree.specs.Chains.{Word}
+use Rattle.arborescence.specs.Sum.{sum_if}
+use Rattle.arborescence.specs.Search.{Tree, leads, Into, Union, merged, raised}
+use Rattle.weight.proofs.Worths.{plus_assoc}
 use Rattle.arborescence.proofs.Merged as merges
 use Rattle.arborescence.proofs.Above as above
-use Rattle.weight.specs.declared.root.Root.{Root}
 use Rattle.search.specs.declared.arcs.Entering.{Entering}
-use Rattle.search.specs.declared.family.Node.{Node}
 use Rattle.word_set.specs.Bits.{in_set}
 use Rattle.weight.specs.Worth.{zeros}
 use Rattle.weight.specs.Layers.{root_worth}
 use Rattle.search.specs.Arcs.{Best, SetArc, with_potential}
-use Rattle.search.specs.Family.{Group, entry, rep_of, from_of, best_of, add_of, size_of, Joined, Valid}
-use Rattle.search.specs.State.{view, blank, group_at, family, State}
+use Rattle.search.specs.Family.{Group, rep_of, best_of, add_of, Joined, Valid}
 use Rattle.search.specs.Ring.{Laid, Ring}
 use Rattle.search.proofs.Rings.{best_same_set}
 

@@ -1,10 +1,10 @@
 -- How great the numbers get, and how many merges there are
-use Rattle.std.proofs.Common.{◌≡◌, ℕ, zero, suc, ◌+◌, ◌-◌, ◌*◌, ◌^◌, ◌<◌, ◌≤◌, Bool, true, false, cond, not, ◌&&◌, eqb, ◌⊎◌, List, [], ◌∷◌, map, length, get_or, sym, refl, ap, ◌∙◌, subst, inl, inr, arith}
-use Rattle.std.proofs.lemmas.Bool.{cases_Bool, and_from, and_parts, eq-eqb, ne_eqb, both_ways}
+use Rattle.std.proofs.Common.{◌≡◌, ℕ, zero, suc, ◌+◌, ◌-◌, ◌*◌, ◌^◌, ◌≤◌, Bool, true, not, ◌&&◌, eqb, List, [], ◌∷◌, length, refl, ap, ◌∙◌, subst, arith}
+use Rattle.std.proofs.lemmas.Bool.{and_from, eq-eqb, ne_eqb, both_ways}
 use Rattle.weight.specs.Worth.{Worth, plus, Within}
-use Rattle.tree.specs.Chains.{Word, up}
+use Rattle.tree.specs.Chains.{Word}
 use Rattle.arborescence.specs.Sum.{sum_if, count_if}
-use Rattle.arborescence.specs.Search.{Sets, Leader, leads, Union, merged, raised}
+use Rattle.arborescence.specs.Search.{Leader, leads, Union, merged, raised}
 use Rattle.arborescence.specs.Bounds.{Sized, merged_size}
 use Rattle.weight.proofs.Worths.{within_more, within_zeros}
 use Rattle.arborescence.proofs.Totals.{but}
@@ -13,7 +13,6 @@ use Rattle.arborescence.proofs.Bounded.{sized_merge}
 use Rattle.arborescence.proofs.Merged as merges
 use Rattle.word_set.specs.Bits.{in_set}
 use Rattle.weight.specs.Worth.{zeros}
-use Rattle.weight.specs.Layers.{root_worth}
 use Rattle.search.specs.Arcs.{Sound}
 use Rattle.search.specs.Family.{Group, rep_of, from_of, best_of, add_of, size_of, Valid}
 use Rattle.search.specs.Ring.{Laid, Ring}

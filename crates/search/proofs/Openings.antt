@@ -1,21 +1,20 @@
-use Rattle.std.proofs.Common.{◌≡◌, ℕ, zero, suc, ◌+◌, ◌<◌, ◌≤◌, Bool, true, false, cond, ◌||◌, eqb, ◌⊎◌, List, [], ◌∷◌, sym, refl, ap, ◌∙◌, subst, inl, inr, arith}
-use Rattle.std.proofs.lemmas.Bool.{cases_Bool, cases_eq, both_ways, cond-true, cond-false, eq-eqb, ne_eqb, eqb-true}
+use Rattle.std.proofs.Common.{◌≡◌, ℕ, zero, suc, ◌≤◌, Bool, true, false, ◌||◌, eqb, ◌⊎◌, List, [], ◌∷◌, sym, refl, ap, ◌∙◌, subst, inl, inr, arith}
+use Rattle.std.proofs.lemmas.Bool.{cases_Bool, cases_eq, both_ways, cond-true, cond-false, eq-eqb, ne_eqb}
 use Rattle.weight.specs.Worth.{Worth, plus, AtMost}
 use Rattle.tree.specs.Chains.{Word, up, Reaches}
 use Rattle.arborescence.specs.Sum.{sum_if}
-use Rattle.arborescence.specs.Search.{Tree, tree_worth, Sets, Leader, leads, Into, Built, Good, Union, Circle, merged, raised}
+use Rattle.arborescence.specs.Search.{Tree, tree_worth, Sets, Leader, leads, Built, Union, Circle, merged, raised}
 use Rattle.weight.proofs.Worths.{at_most_trans}
 use Rattle.arborescence.proofs.Sums.{at_most_eq, sum_le, sum_same}
 use Rattle.arborescence.proofs.Merged as merges
 use Rattle.arborescence.proofs.Above as above
 use Rattle.arborescence.proofs.Below.{unmerge, unmerge_at, unmerge_in, unmerge_out, bottom_from}
 use Rattle.word_set.specs.Bits.{in_set}
-use Rattle.search.specs.Family.{Group, entry, rep_of, from_of, best_of, add_of, Joined, Valid, Entered}
+use Rattle.search.specs.Family.{Group, rep_of, from_of, best_of, add_of, Valid, Entered}
 use Rattle.search.specs.Opening.{Shut, EnteredBy, Opened, BestOfAll}
 use Rattle.search.specs.Ring.{Laid}
 use Rattle.search.proofs.Rings.{up_rep}
 use Rattle.search.proofs.Families.{id_arcs, entered, valid_sets, valid_good}
-use Rattle.search.proofs.Records.{either_of, or_left}
 
 module _ (n : ℕ) (stands : ℕ → ℕ → Bool) (worth : ℕ → ℕ → Worth) (z : Worth) (nought : (h d : ℕ) → Word n d → h ≤ n → plus (worth h d) z ≡ worth h d) (base : ℕ → Group) where
   circle : (m : Group) (ms : List Group) → Valid n stands worth z base (m ∷ ms) → Circle n stands worth (rep_of ms) (add_of n z base ms) (best_of base ms) (in_set m.members) (from_of base ms) (λ ℓ. ℓ)

@@ -1,14 +1,14 @@
-use Rattle.std.proofs.Common.{◌≡◌, ℕ, zero, suc, ◌+◌, ◌-◌, ◌*◌, ◌^◌, ◌<◌, ◌≤◌, Bool, true, false, cond, not, ◌&&◌, ◌||◌, T, eqb, ◌⊎◌, List, [], ◌∷◌, map, length, get_or, sym, refl, ap, ◌∙◌, subst, inl, inr, arith}
+use Rattle.std.proofs.Common.{◌≡◌, ℕ, zero, suc, ◌+◌, ◌-◌, ◌<◌, ◌≤◌, Bool, true, false, cond, ◌||◌, eqb, ◌⊎◌, List, [], ◌∷◌, length, get_or, sym, refl, ap, ◌∙◌, subst, inl, inr, arith}
 use Rattle.std.proofs.lemmas.List.{get_or-map}
-use Rattle.std.proofs.lemmas.Bool.{cases_lt, cases_eq, cases_Bool, both_ways, and_from, and_parts, not-true, cond-true, cond-false, eqb-true, eq-eqb}
+use Rattle.std.proofs.lemmas.Bool.{cases_lt, cases_Bool, both_ways, cond-true, cond-false, eqb-true, eq-eqb}
 use Rattle.weight.specs.Worth.{Worth}
-use Rattle.tree.specs.Chains.{Word, up, Reaches}
+use Rattle.tree.specs.Chains.{up, Reaches}
 use Rattle.tree.proofs.Chains.{up_plus}
 use Rattle.search.proofs.Counts.{or_right}
 use Rattle.search.specs.declared.family.Node.{Node}
 use Rattle.word_set.specs.Bits.{in_set}
 use Rattle.search.specs.Family.{Group, entry, rep_of, from_of, best_of}
-use Rattle.search.specs.State.{view, blank, group_at, family, head_by}
+use Rattle.search.specs.State.{view, blank, group_at, family}
 
 pub node_is : {K : Type 0} (f : K → Worth) (nodes : List (Node K)) (i : ℕ) (x : Node K) → i < length nodes → x ≡ get_or nodes i x → view f x ≡ group_at f nodes i
 node_is f nodes i x l e = ap (view f) e ∙ sym (get_or-map (view f) nodes i x blank l)

@@ -1,8 +1,7 @@
-use Rattle.std.proofs.Common.{◌≡◌, ℕ, zero, suc, ◌+◌, ◌<◌, ◌≤◌, Bool, true, false, cond, ◌||◌, eqb, ◌⊎◌, List, [], ◌∷◌, sym, refl, ap, ◌∙◌, subst, inl, inr, arith}
-use Rattle.std.proofs.lemmas.Bool.{cases_Bool, cases_eq, both_ways, cond-true, cond-false, eq-eqb, ne_eqb, eqb-true}
-use Rattle.weight.specs.Worth.{Worth, plus}
+use Rattle.std.proofs.Common.{◌≡◌, ℕ, zero, suc, ◌+◌, ◌<◌, ◌≤◌, Bool, true, false, ◌||◌, eqb, ◌⊎◌, List, sym, refl, ap, ◌∙◌, subst, inl, inr, arith}
+use Rattle.std.proofs.lemmas.Bool.{cases_eq, both_ways, eq-eqb, ne_eqb, eqb-true}
 use Rattle.tree.specs.Chains.{Word, up}
-use Rattle.arborescence.specs.Search.{Sets, Leader}
+use Rattle.arborescence.specs.Search.{Leader}
 use Rattle.tree.proofs.Chains.{up_plus}
 use Rattle.word_set.specs.Bits.{in_set}
 use Rattle.search.specs.Family.{Group, entry, rep_of, from_of, best_of, next_of}

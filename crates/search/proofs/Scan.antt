@@ -1,17 +1,16 @@
 -- The scan for the best arc
-use Rattle.std.proofs.Common.{◌≡◌, ℕ, zero, suc, ◌+◌, ◌-◌, ◌*◌, ◌^◌, ◌<◌, ◌≤◌, Bool, true, false, cond, not, ◌&&◌, T, eqb, leb, ◌⊎◌, List, [], ◌∷◌, map, length, get_or, ℤ, pos, negsuc, Some, None, Option, sym, refl, ap, ◌∙◌, subst, inl, inr, arith}
-use lib.Signed.{lt_z}
+use Rattle.std.proofs.Common.{◌≡◌, ℕ, ◌+◌, ◌-◌, ◌*◌, ◌<◌, ◌≤◌, Bool, true, false, cond, not, ◌&&◌, T, eqb, leb, ◌⊎◌, List, [], map, length, get_or, Some, None, Option, sym, refl, ap, ◌∙◌, subst, inl, inr, arith}
 use Rattle.std.proofs.lemmas.List.{get_or-map}
-use Rattle.std.proofs.lemmas.Bool.{cases_lt, cases_Bool, cases_eq, both_ways, and_from, and_parts, not-true, eqb-true, eq-eqb, ne_eqb, leb-true, le-leb}
+use Rattle.std.proofs.lemmas.Bool.{cases_lt, cases_Bool, cases_eq, both_ways, and_from, and_parts, not-true, eq-eqb, ne_eqb, leb-true, le-leb}
 use Rattle.std.proofs.lemmas.Nat.{mul-add-lt}
-use Rattle.weight.specs.Worth.{Worth, plus, at_most, AtMost, Within}
+use Rattle.weight.specs.Worth.{Worth, plus, at_most, AtMost}
 use Rattle.weight.specs.Layers.{root_worth}
 use Rattle.weight.proofs.Worths.{at_most_refl, at_most_trans, at_most_total, at_most_plus}
 use Rattle.tree.specs.Chains.{Word}
 use Rattle.arborescence.specs.Heads.{rooted}
 use Rattle.search.specs.declared.arcs.Entering.{Entering}
 use Rattle.word_set.specs.Bits.{in_set}
-use Rattle.search.specs.Arcs.{allowed, BestHead, better_head, Best, better_of, HeadArc, SetArc, with_potential}
+use Rattle.search.specs.Arcs.{BestHead, better_head, Best, better_of, HeadArc, SetArc, with_potential}
 
 pub element : {K : Type 0} (f : K → Worth) (xs : List K) (i : ℕ) (x : K) → i < length xs → x ≡ get_or xs i x → f x ≡ get_or (map f xs) i []
 element f xs i x l e = ap f e ∙ sym (get_or-map f xs i x [] l)

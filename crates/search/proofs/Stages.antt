@@ -1,11 +1,11 @@
-use Rattle.std.proofs.Common.{◌≡◌, ℕ, zero, suc, ◌+◌, ◌<◌, ◌≤◌, Bool, true, false, cond, eqb, ◌⊎◌, List, [], ◌∷◌, sym, refl, ap, ◌∙◌, subst, inl, inr, arith}
-use Rattle.std.proofs.lemmas.Bool.{cases_Bool, cases_eq, both_ways, cond-true, cond-false, eq-eqb, ne_eqb, eqb-true}
+use Rattle.std.proofs.Common.{◌≡◌, ℕ, zero, suc, ◌≤◌, Bool, true, false, eqb, ◌⊎◌, List, [], ◌∷◌, sym, refl, ap, ◌∙◌, subst, inl, inr, arith}
+use Rattle.std.proofs.lemmas.Bool.{cases_Bool, both_ways, cond-true, cond-false, eq-eqb, ne_eqb}
 use Rattle.weight.specs.Worth.{Worth, plus}
-use Rattle.tree.specs.Chains.{Word, up}
-use Rattle.arborescence.specs.Search.{Sets, Leader, Union}
+use Rattle.tree.specs.Chains.{Word}
+use Rattle.arborescence.specs.Search.{Union}
 use Rattle.arborescence.proofs.Merged as merges
 use Rattle.word_set.specs.Bits.{in_set}
-use Rattle.search.specs.Family.{Group, entry, rep_of, from_of, best_of, Begun, Joined, Valid}
+use Rattle.search.specs.Family.{Group, entry, rep_of, from_of, Begun, Valid}
 use Rattle.search.specs.Ring.{Laid}
 use Rattle.search.proofs.Records.{entry_to}
 use Rattle.search.proofs.Families.{valid_sets}

@@ -1,5 +1,5 @@
 -- What a search for the heaviest tree answers
-use Rattle.std.specs.Prelude.{◌≡◌, ℕ, ◌+◌, ◌*◌, ◌<◌, ◌≤◌, Bool, not, ◌&&◌, ◌⊎◌, List, length, take, drop, Some, None, Ok, Err, Option, Result, ◌==◌}
+use Rattle.std.specs.Prelude.{◌≡◌, ℕ, ◌<◌, ◌≤◌, Bool, not, ◌&&◌, ◌⊎◌, List, length, take, drop, Some, None, Ok, Err, Option, Result, ◌==◌}
 use Rattle.refusal.specs.declared.Refusal.{Refusal}
 use Rattle.refusal.specs.declared.Refusal.TheVariants.{WordCount, ShortMemory, ShortSpace}
 use Rattle.weight.specs.Range.{Range}
@@ -7,7 +7,6 @@ use Rattle.weight.specs.Worth.{Worth, Outweighs}
 use Rattle.arborescence.specs.Heads.{TreeOver, worth_from}
 use Rattle.word_set.specs.Bits.{in_set}
 use Rattle.search.specs.Arcs.{Entries}
-use Rattle.search.specs.State.{Room}
 
 -- the heads are a single-root tree over the arcs that stand, the weight is the sum of its arcs, and no such tree outweighs it
 pub record HeaviestTree {K : Type 0} (f : K → Worth) (n : ℕ) (stands : ℕ → ℕ → Bool) (worth : ℕ → ℕ → Worth) (heads : List ℕ) (weight : K) : Type 0 where

@@ -1,6 +1,6 @@
 -- The arcs that a search looks at, of n words: bit h of sets[d - 1] is up where the arc from h to d stands,
 -- and weights[(d - 1) * (n + 1) + h] is its weight. The first words can be held, each at a given head.
-use Rattle.std.specs.Prelude.{◌≡◌, ℕ, ◌+◌, ◌-◌, ◌*◌, ◌^◌, ◌<◌, ◌≤◌, Bool, true, false, cond, ◌&&◌, ◌||◌, List, [], ◌∷◌, map, length, Some, None, Option, ◌==◌, nat_lt, slice_index, slice_index_or}
+use Rattle.std.specs.Prelude.{◌≡◌, ℕ, ◌+◌, ◌-◌, ◌*◌, ◌^◌, ◌<◌, ◌≤◌, Bool, true, false, cond, ◌&&◌, ◌||◌, List, [], map, length, Some, None, Option, ◌==◌, nat_lt, slice_index, slice_index_or}
 use Rattle.weight.specs.Worth.{Worth, plus, at_most, AtMost, Within}
 use Rattle.weight.specs.Layers.{root_worth}
 use Rattle.weight.specs.Range.{Range, entry_in}

@@ -3,7 +3,7 @@
 use Rattle.std.specs.Prelude.{◌≡◌, ℕ, ◌≤◌, Bool, true, cond, List, [], ◌∷◌, ◌==◌}
 use Rattle.weight.specs.Worth.{Worth, plus}
 use Rattle.tree.specs.Chains.{Word, up}
-use Rattle.arborescence.specs.Search.{Leader, Into, Covers, Union, merged, raised}
+use Rattle.arborescence.specs.Search.{Leader, Into, Covers, Union, raised}
 use Rattle.arborescence.specs.Bounds.{merged_size}
 use Rattle.word_set.specs.Bits.{in_set}
 

@@ -1,5 +1,5 @@
 -- The sets of a stage, and the ring that a walk goes round
-use Rattle.std.specs.Prelude.{◌≡◌, ℕ, suc, ◌≤◌, Bool, true, false, ◌⊎◌, List, ◌==◌}
+use Rattle.std.specs.Prelude.{◌≡◌, ℕ, suc, ◌≤◌, true, false, ◌⊎◌, List, ◌==◌}
 use Rattle.tree.specs.Chains.{Word, up}
 use Rattle.arborescence.specs.Search.{Sets, Leader}
 use Rattle.word_set.specs.Bits.{in_set}

@@ -1,5 +1,5 @@
 -- The records of a search: of the root at 0 and the words at 1 to n, and of the sets that were made, in their order
-use Rattle.std.specs.Prelude.{◌≡◌, ℕ, zero, suc, ◌+◌, ◌-◌, ◌*◌, ◌<◌, ◌≤◌, Bool, true, false, ◌||◌, List, [], ◌∷◌, map, Some, None, Ok, Err, Option, Result, ◌==◌, slice_index_or}
+use Rattle.std.specs.Prelude.{◌≡◌, ℕ, zero, suc, ◌+◌, ◌-◌, ◌*◌, ◌<◌, ◌≤◌, Bool, true, ◌||◌, List, [], ◌∷◌, map, Some, None, Ok, Err, Option, Result, ◌==◌, slice_index_or}
 use Rattle.weight.specs.Worth.{Worth, plus}
 use Rattle.tree.specs.Chains.{Word, up, Reaches}
 use Rattle.arborescence.specs.Search.{Tree, Into, Covers}
@@ -9,7 +9,7 @@ use Rattle.weight.specs.declared.root.Root.{Root}
 use Rattle.weight.specs.Worth.{zeros}
 use Rattle.weight.specs.Layers.{root_worth}
 use Rattle.search.specs.Arcs.{potential}
-use Rattle.search.specs.Family.{Group, entry, from_of, add_of, Valid}
+use Rattle.search.specs.Family.{Group, from_of, add_of, Valid}
 
 abbrev pub view : {K : Type 0} → (K → Worth) → Node K → Group
 view f node = record { members = node.members; from = node.from; to = node.to; value = root_worth f node.value }

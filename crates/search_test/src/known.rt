@@ -124,7 +124,7 @@ fn forty_words(rt: HostRuntime) -> Result<(), Fail> {
     };
     let mut space = [0; 2];
     assert!(rt; matches!(weight.show(&mut space), Ok(2)));
-    assert_eq!(rt; &space[..], b"80");
+    assert_eq!(rt; &space[..], b"80".as_slice());
     for word in 0..40 {
         assert!(rt; heads[word] as usize == word);
     }

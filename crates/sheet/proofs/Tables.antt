@@ -3,12 +3,12 @@ use Rattle.std.proofs.Common.{◌≡◌, ℕ, zero, suc, ◌+◌, ◌-◌, ◌*�
 use Rattle.refusal.specs.declared.Refusal.TheVariants.{WordCount, ShortMemory, NoDependent, HeadAbove, SelfLoop}
 use Rattle.refusal.specs.declared.Refusal.{Refusal}
 use Rattle.sheet.proofs.Lists.{nth_set_same, nth_set_other, nth_some, drop_set}
-use Rattle.sheet.specs.Arcs.{Arcs, arcs_in, no_arcs, with_arc, named, on_line, place}
-use Rattle.sheet.specs.Calls.{Holds, or_else, refuse_if, memory_check, arc_check, ends_check, open_check, too_short}
+use Rattle.sheet.specs.Arcs.{arcs_in, no_arcs, with_arc, on_line, place}
+use Rattle.sheet.specs.Calls.{Holds, or_else, refuse_if, arc_check, ends_check, open_check, too_short}
 use Rattle.sheet.specs.declared.Lengths.{Lengths}
 use Rattle.std.proofs.lemmas.Nat.{mul-add-lt, div-mul-add}
 use Rattle.std.proofs.lemmas.List.{get_or-set_same, get_or-set_other, drop_at}
-use Rattle.std.proofs.lemmas.Bool.{cases_lt, cases_eq, cases_Bool, eq-eqb, ne_eqb, le-leb, leb-true, lt-ltb, ltb-false, eqb-false, and_parts, and_from, and_right, or_parts}
+use Rattle.std.proofs.lemmas.Bool.{cases_eq, cases_Bool, eq-eqb, ne_eqb, le-leb, leb-true, lt-ltb, ltb-false, eqb-false, and_parts, and_from, and_right, or_parts}
 use Rattle.std.specs.List.{slice_get}
 use Rattle.word_set.proofs.Sets.{in_set_empty}
 use Rattle.word_set.specs.Bits.{in_set}

@@ -1,2 +1,4 @@
 pub mod Arcs
 pub mod Calls
+pub mod Candidates
+pub mod Orders

@@ -3,9 +3,12 @@
 
 ghost use Rattle.std.specs.Prelude.{◌≡◌, ◌<◌, ◌≤◌, length, replicate, is_some, IfOk, Some, None, slice_set};
 ghost use Rattle.sheet.specs.Arcs.{arcs_in, no_arcs, with_arc};
+ghost use Rattle.sheet.specs.Candidates.{outranking};
+ghost use Rattle.sheet.specs.Orders;
 ghost use Rattle.sheet.specs.Calls.{Answered, arc_check, ends_check, Holds, memory_check, open_check, put_check, strike_check, too_short};
 ghost use Rattle.weight.specs.Range.{entry_in};
 
+use queue::Ranked;
 use refusal::Refusal;
 use search::Node;
 use std::marker::PhantomData;
@@ -68,6 +71,17 @@ impl<K> Candidate<K> {
             from: 1,
             banned: 0,
         }
+    }
+}
+
+// The heavier tree is handed out first.
+impl<K: Kind> Ranked for Candidate<K> {
+    ghost above = { λ a b. outranking K.Kind.worth a b };
+
+    ghost ranks = { Orders.ranks K.Kind.worth };
+
+    fn outranks(&self, other: &Candidate<K>) -> bool {
+        !self.weight.at_most(&other.weight)
     }
 }
 

@@ -1,7 +1,7 @@
-use Rattle.std.proofs.Common.{◌≡◌, ℕ, zero, suc, ◌+◌, ◌-◌, ◌*◌, ◌<◌, ◌≤◌, Bool, true, false, cond, eqb, ◌⊎◌, sym, refl, ap, ◌∙◌, subst, inl, inr, suc-add, zero-add, zero-mul, le-mul_of_pos_right, arith}
-use Rattle.std.proofs.lemmas.Bool.{cases_eq, cases_Bool, cases_lt, both_ways}
+use Rattle.std.proofs.Common.{◌≡◌, ℕ, zero, suc, ◌+◌, ◌-◌, ◌*◌, ◌<◌, ◌≤◌, Bool, true, false, cond, eqb, ◌⊎◌, sym, refl, ap, ◌∙◌, inl, inr, suc-add, zero-add, zero-mul, le-mul_of_pos_right, arith}
+use Rattle.std.proofs.lemmas.Bool.{cases_eq, cases_Bool, both_ways}
 use Rattle.std.proofs.lemmas.Bool.Decides.{nat_tests}
-use Rattle.tree.specs.Chains.{up, Word, Reaches, RunsIntoCycle, SetIsEntered, Arrives, NeverAgain}
+use Rattle.tree.specs.Chains.{up, Word, SetIsEntered, Arrives, NeverAgain}
 
 enter : (head : ℕ → ℕ) (inside : ℕ → Bool) → inside 0 ≡ false → (k w : ℕ) → inside w ≡ true → up head k w ≡ 0 → (d : ℕ) × (inside d ≡ true) × (inside (head d) ≡ false)
 enter head inside root zero w s e = absurd (both_ways (inside 0) root (ap inside (sym e) ∙ s))

@@ -1,5 +1,5 @@
 -- Lists of heads looked at word by word.
-use Rattle.std.proofs.Common.{◌≡◌, ℕ, zero, suc, ◌+◌, ◌<◌, ◌≤◌, true, false, List, length, get_or, is_some, Some, None, Option, sym, refl, ap, ◌∙◌, arith}
+use Rattle.std.proofs.Common.{◌≡◌, ℕ, zero, suc, ◌<◌, ◌≤◌, true, false, List, length, get_or, is_some, Some, None, Option, refl, arith}
 use Rattle.std.proofs.lemmas.Bool.{both_ways}
 use Rattle.tree.specs.Chains.{Word, head_of}
 use Rattle.tree.specs.Trees.{CycleFree, OnlyRoot, ToldCycle, LineTree}

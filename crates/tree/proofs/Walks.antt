@@ -1,10 +1,10 @@
 -- The walk along chains of heads that marks the words it meets.
-use Rattle.std.proofs.Common.{◌≡◌, ℕ, zero, suc, ◌+◌, ◌<◌, ◌≤◌, Bool, true, false, cond, ◌⊎◌, List, [], ◌∷◌, length, get_or, set, replicate, sum_by, sym, refl, ap, ◌∙◌, subst, inl, inr, ⊎_elim, arith, length-set}
-use Rattle.std.proofs.lemmas.List.{get_or_past, get_or-replicate, get_or-set_same, get_or-set_other}
+use Rattle.std.proofs.Common.{◌≡◌, ℕ, zero, suc, ◌<◌, ◌≤◌, Bool, true, false, cond, List, ◌∷◌, length, get_or, set, replicate, sum_by, sym, refl, ap, ◌∙◌, ⊎_elim, arith}
+use Rattle.std.proofs.lemmas.List.{get_or_past, get_or-replicate, get_or-set_other}
 use Rattle.std.proofs.lemmas.List.Sums.{sum_by-set}
 use Rattle.std.proofs.lemmas.Bool.{cases_lt, cases_eq, both_ways}
 use Rattle.tree.proofs.Chains.{arrives, never_again, up_root}
-use Rattle.tree.specs.Chains.{Word, head_of, up, Reaches, RunsIntoCycle, OnCycle}
+use Rattle.tree.specs.Chains.{Word, head_of, up, Reaches, OnCycle}
 use Rattle.tree.specs.Trees.{CycleFree, RootedIsCycleFree, OnCycleRuns}
 
 pub head_past : (heads : List ℕ) (w : ℕ) → length heads < w → head_of heads w ≡ 0

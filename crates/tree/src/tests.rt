@@ -18,13 +18,13 @@ fn checks_heads(rt: HostRuntime) {
 fn draws_trees(rt: HostRuntime) {
     let mut space = [b'.'; 8];
     assert_eq!(rt; write_brackets(&[0, 1, 1], &mut space), Ok(6));
-    assert_eq!(rt; &space[..], b"1(2 3)..");
+    assert_eq!(rt; &space[..], b"1(2 3)..".as_slice());
     assert_eq!(rt; write_brackets(&[2, 1], &mut space), Err(Refusal::NotATree));
-    assert_eq!(rt; &space[..], b"1(2 3)..");
+    assert_eq!(rt; &space[..], b"1(2 3)..".as_slice());
     let mut short = [b'.'; 5];
     assert_eq!(rt;
         write_brackets(&[0, 1, 1], &mut short),
         Err(Refusal::ShortSpace)
     );
-    assert_eq!(rt; &short[..], b".....");
+    assert_eq!(rt; &short[..], b".....".as_slice());
 }

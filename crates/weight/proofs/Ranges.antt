@@ -1,10 +1,9 @@
 -- What holds of entries
-use Rattle.std.proofs.Common.{◌≡◌, ℕ, true, ◌&&◌, List, [], ◌∷◌, ℤ, pos, neg_ℤ, ◌≤ℤ◌, refl, arith}
+use Rattle.std.proofs.Common.{◌≡◌, ℕ, true, [], ◌∷◌, ℤ, ◌≤ℤ◌, arith}
 use lib.Signed.{le_z}
 use Rattle.std.proofs.lemmas.Int.{ints}
 use Rattle.std.proofs.lemmas.Bool.{and_parts}
-use Rattle.weight.specs.Worth.{Worth, Within}
-use Rattle.weight.specs.Range.{Range, in_range, entry_in, limit, Ranged, EntryWithin}
+use Rattle.weight.specs.Range.{in_range, entry_in, EntryWithin}
 
 le_true : (x y : ℤ) → le_z x y ≡ true → x ≤ℤ y
 le_true x y e = grind (arith, ints)

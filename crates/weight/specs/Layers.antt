@@ -1,5 +1,5 @@
 -- The worths of layers: a place in front of the worth of any kind
-use Rattle.std.specs.Prelude.{ℕ, Bool, cond, ◌∷◌, ℤ, pos, negsuc, ◌==◌}
+use Rattle.std.specs.Prelude.{ℕ, cond, ◌∷◌, ℤ, pos, negsuc, ◌==◌}
 use Rattle.weight.specs.Worth.{Worth}
 use Rattle.weight.specs.declared.front.Front.{Front}
 use Rattle.weight.specs.declared.mark.Mark.{Mark}

@@ -1,5 +1,5 @@
 -- The ranges in which the places of an entry lie: what a sheet takes as the weight of an arc.
-use Rattle.std.specs.Prelude.{◌≡◌, ℕ, Bool, true, false, ◌&&◌, T, List, [], ◌∷◌, length, ℤ, pos, neg_ℤ, ◌≤ℤ◌, int_le}
+use Rattle.std.specs.Prelude.{◌≡◌, ℕ, Bool, true, false, ◌&&◌, List, [], ◌∷◌, ℤ, pos, neg_ℤ, ◌≤ℤ◌, int_le}
 use Rattle.weight.specs.Worth.{Worth, Within}
 
 -- from the least to the greatest, both included

@@ -1,5 +1,5 @@
 -- A worth: a list of whole numbers, its places. A place that is missing counts as 0.
-use Rattle.std.specs.Prelude.{◌≡◌, ℕ, ◌+◌, ◌^◌, ◌<◌, ◌≤◌, Bool, true, false, cond, T, ◌⊎◌, List, [], ◌∷◌, length, get_or, replicate, ℤ, pos, ◌+ℤ◌, ◌-ℤ◌, neg_ℤ, ◌≤ℤ◌, ◌<ℤ◌, int_lt, slice_index_or}
+use Rattle.std.specs.Prelude.{◌≡◌, ℕ, ◌+◌, ◌^◌, ◌<◌, ◌≤◌, Bool, true, false, cond, T, ◌⊎◌, List, [], ◌∷◌, length, replicate, ℤ, pos, ◌+ℤ◌, ◌-ℤ◌, neg_ℤ, ◌≤ℤ◌, ◌<ℤ◌, int_lt, slice_index_or}
 use Rattle.std.specs.declared.cmp.Ordering.TheVariants.{Less, Equal, Greater}
 use Rattle.std.specs.declared.cmp.Ordering.{Ordering}
 
@@ -40,7 +40,7 @@ pub record AtMost (a b : Worth) : Type 0 where
 -- a is greater than b at the first place where they differ
 pub record Outweighs (a b : Worth) : Type 0 where
   pub place : ℕ
-  pub greater : get_or b place (pos 0) <ℤ slice_index_or a place (pos 0)
+  pub greater : slice_index_or b place (pos 0) <ℤ slice_index_or a place (pos 0)
   pub same_before : (k : ℕ) → k < place → slice_index_or a k (pos 0) ≡ slice_index_or b k (pos 0)
 
 -- how two worths compare

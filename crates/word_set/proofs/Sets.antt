@@ -1,10 +1,10 @@
 -- The bits of a number as a set of words.
-use Rattle.std.proofs.Common.{◌≡◌, ℕ, zero, suc, ◌+◌, ◌-◌, ◌*◌, ◌/◌, ◌%◌, ◌^◌, ◌<◌, ◌≤◌, max, Bool, true, false, cond, not, ◌&&◌, ◌||◌, eqb, ltb, leb, ◌⊎◌, sym, refl, ap, ◌∙◌, subst, inl, inr, one-mul, arith}
+use Rattle.std.proofs.Common.{◌≡◌, ℕ, zero, suc, ◌+◌, ◌-◌, ◌*◌, ◌/◌, ◌%◌, ◌^◌, ◌<◌, ◌≤◌, max, Bool, true, false, not, ◌&&◌, ◌||◌, eqb, ltb, leb, ◌⊎◌, sym, refl, ap, ◌∙◌, subst, inl, inr, one-mul, arith}
 use native.Mathlib.Nat.{zero-div, div-eq_of_lt}
 use lib.Bits.{bit_and, bit_or, bit_xor, or_step, or_shr}
 use lib.Count.{count_trailing_zeros, under}
 use lib.Pow.{ones_split}
-use Rattle.std.proofs.lemmas.Nat.{and_mask, and_shr, and_mod, xor_shr, xor_mod, shl-shr, shr_high, shr-shr, pow-add, pow_pos, one_shl, pow_below}
+use Rattle.std.proofs.lemmas.Nat.{and_mask, and_shr, and_mod, xor_shr, xor_mod, shl-shr, shr_high, shr-shr, pow-add, pow_pos, pow_below}
 use Rattle.std.proofs.lemmas.Bool.{cases_lt, cases_eq, eq-eqb, ne_eqb, le-leb, lt-leb, lt-ltb, le-ltb}
 use Rattle.word_set.specs.Bits.{in_set}
 

@@ -1,5 +1,5 @@
-use Rattle.std.proofs.Common.{◌≡◌, ℕ, ◌+◌, ◌-◌, ◌<◌, ◌≤◌, List, ◌++◌, length, take, drop, set, None, Ok, Err, sym, refl, ap, ◌∙◌, subst, arith}
-use Rattle.candidate.specs.declared.Candidate.{Candidate}
+use Rattle.std.proofs.Common.{◌≡◌, ℕ, ◌+◌, ◌-◌, List, ◌++◌, length, take, drop, None, Ok, Err, sym, refl, ap, ◌∙◌, subst, arith}
+use Rattle.sheet.specs.declared.Candidate.{Candidate}
 use Rattle.search.specs.declared.family.Node.{Node}
 use Rattle.weight.specs.declared.root.Root.{Root}
 use Rattle.std.proofs.lemmas.List.{length-take-le, drop-set-lt}

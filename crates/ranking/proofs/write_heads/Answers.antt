@@ -1,4 +1,4 @@
-use Rattle.std.proofs.Common.{◌≡◌, ℕ, length, drop, ◌∙◌}
+use Rattle.std.proofs.Common.{◌≡◌, length, drop, ◌∙◌}
 use Rattle.std.proofs.lemmas.List.{length-take-le, take_at, drop_at}
 use Rattle.ranking.proofs.write_heads.Goals as goal
 

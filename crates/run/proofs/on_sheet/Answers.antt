@@ -1,5 +1,4 @@
-use Rattle.std.proofs.Common.{sym, refl}
-use Rattle.ranking.specs.Calls.{SameBeyond}
+use Rattle.std.proofs.Common.{refl}
 use Rattle.run.proofs.Turns.{memory_of, same_all, step_as, put_turn, strike_turn}
 use Rattle.run.specs.declared.Answer.TheVariants.{Done}
 use Rattle.run.specs.declared.Call.TheVariants.{Put, Strike, Begin}

@@ -1,4 +1,4 @@
-use Rattle.std.proofs.Common.{◌≡◌, ℕ, ◌+◌, ◌<◌, ◌≤◌, List, length, sym, refl, ap, ◌∙◌, subst, arith}
+use Rattle.std.proofs.Common.{ℕ, ◌+◌, List, length, sym, refl, ap, ◌∙◌, subst, arith}
 use Rattle.run.proofs.Turns.{memory_of}
 use Rattle.run.specs.declared.Turn.{Turn}
 use Rattle.sheet.specs.declared.Sheet.{Sheet}

@@ -1,4 +1,4 @@
-use Rattle.std.proofs.Common.{◌≡◌, [], replicate, ◌∙◌, arith}
+use Rattle.std.proofs.Common.{[], replicate, ◌∙◌, arith}
 use Rattle.std.proofs.lemmas.List.{length-take-le}
 use Rattle.run.proofs.Turns.{memory_of, hand_turn, refuse_turn}
 use Rattle.run.proofs.take_into.Goals as goal

@@ -1,4 +1,4 @@
-use Rattle.std.proofs.Common.{◌≡◌, ℕ, ◌-◌, sym, ◌∙◌, arith}
+use Rattle.std.proofs.Common.{◌-◌, sym, ◌∙◌, arith}
 use Rattle.search.proofs.Held.{head_at}
 use Rattle.search.proofs.Finds.{rest_same}
 use Rattle.search.proofs.hand_out.Goals as goal

@@ -1,4 +1,4 @@
-use Rattle.std.proofs.Common.{◌^◌, ◌<◌, sym, ◌∙◌, rules}
+use Rattle.std.proofs.Common.{◌^◌, ◌<◌, rules}
 use Rattle.word_set.proofs.Sets.{bit_is, in_set_beyond}
 use Rattle.word_set.proofs.holds.Goals as goal
 

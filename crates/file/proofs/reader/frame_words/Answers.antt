@@ -2,7 +2,7 @@ use Rattle.file.proofs.Frames.{kind_long, made_all}
 use Rattle.file.proofs.reader.frame_words.Goals as goal
 use Rattle.file.specs.Reading.{words_of_kind, words_told}
 use Rattle.std.proofs.lemmas.Result.{err_from_is_err_and, IfOk-from_err}
-use Rattle.std.proofs.Common.{◌≡◌, ℕ, ◌≤◌, length, is_ok, Ok, Err, sym, ap, ◌∙◌, subst}
+use Rattle.std.proofs.Common.{◌≡◌, ℕ, ◌≤◌, length, is_ok, Err, sym, ap, ◌∙◌, subst}
 
 pub words_told-requires : goal.words_told-requires
 words_told-requires g c =

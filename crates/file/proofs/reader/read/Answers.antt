@@ -2,14 +2,14 @@ use Rattle.file.proofs.Fills.{answered_err, answered_ok, read_done, read_frame, 
 use Rattle.file.proofs.Steps.{told_err, told_ok}
 use Rattle.file.proofs.reader.read.Goals as goal
 use Rattle.file.specs.Formats.{format_of}
-use Rattle.file.specs.Reading.{frame_words, record_count}
+use Rattle.file.specs.Reading.{record_count}
 use Rattle.file.specs.Records.{put_records, records_check}
 use Rattle.file.specs.declared.fault.FileFault.TheVariants.{Sheet as SheetFault, Record}
 use Rattle.sheet.specs.Arcs.{arcs_in, no_arcs}
 use Rattle.sheet.specs.Calls.{Holds, open_check}
 use Rattle.sheet.specs.declared.Lengths.{Lengths}
 use Rattle.std.proofs.lemmas.Result.{err_from_is_err_and}
-use Rattle.std.proofs.Common.{◌≡◌, ℕ, ◌≤◌, length, is_ok, IfOk, None, Ok, Err, sym, refl, ap, ◌∙◌, subst}
+use Rattle.std.proofs.Common.{◌≡◌, ℕ, ◌≤◌, length, is_ok, IfOk, Ok, Err, sym, refl, ap, ◌∙◌, subst}
 
 pub fill-requires : goal.fill-requires
 fill-requires g c =

@@ -1,6 +1,6 @@
 use Rattle.file.proofs.Steps.{told_record}
 use Rattle.file.proofs.records.put_record.Goals as goal
-use Rattle.file.specs.Formats.{Format, format_of}
+use Rattle.file.specs.Formats.{format_of}
 use Rattle.sheet.specs.Arcs.{arcs_in}
 use Rattle.std.proofs.Common.{length}
 

@@ -5,7 +5,7 @@ use Rattle.file.specs.Records.{KeptBeyond, put_records, records_check, Told}
 use Rattle.sheet.specs.Arcs.{arcs_in}
 use Rattle.sheet.specs.Calls.{Holds, memory_check}
 use Rattle.std.proofs.lemmas.Result.{err_from_is_err_and}
-use Rattle.std.proofs.Common.{◌≡◌, ℕ, length, is_ok, is_err, sym, ap, ◌∙◌, subst, arith, rules}
+use Rattle.std.proofs.Common.{◌≡◌, ℕ, length, is_ok, is_err, ap, ◌∙◌, subst, rules}
 
 pub loop-number-init : goal.loop-number-init
 loop-number-init g c = left_all _ _ _ _ _ _

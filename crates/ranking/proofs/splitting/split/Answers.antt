@@ -1,8 +1,8 @@
-use Rattle.std.proofs.Common.{◌≡◌, ℕ, suc, ◌+◌, ◌<◌, ◌≤◌, List, take, drop, sym, ap, ◌∙◌, subst, arith}
-use Rattle.candidate.specs.declared.Candidate.{Candidate}
+use Rattle.std.proofs.Common.{◌≡◌, ℕ, suc, ◌+◌, List, take, drop, sym, ap, ◌∙◌, subst, arith}
+use Rattle.sheet.specs.declared.Candidate.{Candidate}
 use Rattle.cells.specs.Cells.{bans_at}
 use Rattle.sheet.specs.Arcs.{Arcs}
-use Rattle.tree.specs.Chains.{Word, head_of}
+use Rattle.tree.specs.Chains.{Word}
 use Rattle.word_set.specs.Bits.{in_set}
 use Rattle.ranking.specs.Memory.{HoldsArcs, Waits}
 use Rattle.ranking.specs.Trees.{TreeOf}

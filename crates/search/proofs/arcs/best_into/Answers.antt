@@ -1,4 +1,4 @@
-use Rattle.std.proofs.Common.{◌≡◌, ℕ, ◌+◌, ◌-◌, ◌^◌, ◌<◌, ◌≤◌, Bool, length, get_or, sym, refl, ap, ◌∙◌, subst, arith}
+use Rattle.std.proofs.Common.{◌≡◌, ℕ, ◌+◌, ◌^◌, ◌<◌, Bool, length, sym, ap, ◌∙◌, subst, arith}
 use Rattle.weight.specs.Worth.{Worth, plus, Within}
 use Rattle.weight.specs.Layers.{root_worth}
 use Rattle.tree.specs.Chains.{Word}

@@ -1,4 +1,4 @@
-use Rattle.std.proofs.Common.{◌≡◌, ℕ, ◌≤◌, Some, sym, ap, ◌∙◌, subst, arith}
+use Rattle.std.proofs.Common.{◌≡◌, ℕ, Some, sym, ap, ◌∙◌, subst, arith}
 use Rattle.weight.specs.Worth.{Worth}
 use Rattle.word_set.specs.Bits.{in_set}
 use Rattle.search.specs.Arcs.{weight_at}

@@ -1,4 +1,4 @@
-use Rattle.std.proofs.Common.{ℕ, ◌+◌, ◌-◌, ◌*◌, ◌<◌, length, arith}
+use Rattle.std.proofs.Common.{◌+◌, ◌-◌, ◌*◌, ◌<◌, length, arith}
 use Rattle.search.proofs.Scan.{element, place_lt}
 use Rattle.search.proofs.arcs.weight.Goals as goal
 

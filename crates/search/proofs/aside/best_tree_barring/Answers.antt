@@ -1,4 +1,4 @@
-use Rattle.std.proofs.Common.{ℕ, ◌+◌, length, refl, arith}
+use Rattle.std.proofs.Common.{◌+◌, length, refl, arith}
 use Rattle.search.specs.Answer.{barring}
 use Rattle.search.specs.Arcs.{allowed, weight_at}
 use Rattle.search.specs.State.{Room}

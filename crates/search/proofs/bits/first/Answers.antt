@@ -1,4 +1,4 @@
-use Rattle.std.proofs.Common.{◌^◌, ◌<◌, arith, rules}
+use Rattle.std.proofs.Common.{◌^◌, ◌<◌, rules}
 use Rattle.word_set.proofs.Sets.{lowest_in}
 use Rattle.search.proofs.bits.first.Goals as goal
 

@@ -1,4 +1,4 @@
-use Rattle.std.proofs.Common.{◌≡◌, ℕ, suc, ◌+◌, ◌-◌, ◌<◌, ◌≤◌, true, false, ◌||◌, ◌⊎◌, sym, refl, ap, ◌∙◌, subst, inl, inr, arith}
+use Rattle.std.proofs.Common.{◌∙◌, arith}
 use Rattle.search.proofs.Records.{fine_more, or_left, fine_start, starts_more}
 use Rattle.word_set.specs.Bits.{in_set}
 use Rattle.search.specs.State.{group_at, head_by}

@@ -1,4 +1,4 @@
-use Rattle.std.proofs.Common.{◌≡◌, ap, ◌∙◌}
+use Rattle.std.proofs.Common.{ap, ◌∙◌}
 use Rattle.search.specs.Family.{Group}
 use Rattle.search.specs.State.{group_at, family}
 use Rattle.search.proofs.Records.{entry_from}

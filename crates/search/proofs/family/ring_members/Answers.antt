@@ -1,6 +1,6 @@
 use Rattle.word_set.proofs.Sets.{in_set_empty}
-use Rattle.std.proofs.Common.{◌≡◌, ℕ, ◌≤◌, sym, refl, ap, ◌∙◌, subst}
-use Rattle.search.specs.Family.{Group, from_of}
+use Rattle.std.proofs.Common.{sym, ap, ◌∙◌}
+use Rattle.search.specs.Family.{Group}
 use Rattle.search.specs.State.{group_at, family}
 use Rattle.search.proofs.Records.{entry_from}
 use Rattle.search.proofs.Rings.{going_start, going_more, going_less, ring_done}

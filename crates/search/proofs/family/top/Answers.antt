@@ -1,4 +1,4 @@
-use Rattle.std.proofs.Common.{◌≡◌, ℕ, ◌+◌, ◌-◌, ◌<◌, ◌≤◌, length, sym, refl, ap, ◌∙◌, subst, arith}
+use Rattle.std.proofs.Common.{◌≡◌, ℕ, ◌-◌, ◌<◌, length, sym, ap, ◌∙◌, arith}
 use Rattle.search.specs.Family.{Group, entry}
 use Rattle.search.specs.State.{group_at, family}
 use Rattle.search.proofs.Records.{node_is, top_here, top_below}

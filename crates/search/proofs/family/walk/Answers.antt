@@ -1,6 +1,5 @@
-use Rattle.std.proofs.Common.{◌≡◌, ℕ, suc, ◌+◌, ◌-◌, ◌<◌, ◌≤◌, true, false, sym, refl, ap, ◌∙◌, subst, inl, inr, arith}
+use Rattle.std.proofs.Common.{◌≡◌, ℕ, suc, ◌≤◌, true, sym, refl, ◌∙◌, subst, inl}
 use Rattle.std.proofs.lemmas.Bool.{both_ways, eq-eqb}
-use Rattle.tree.specs.Chains.{Word, up}
 use Rattle.word_set.specs.Bits.{in_set}
 use Rattle.search.specs.State.{group_at, head_by}
 use Rattle.word_set.proofs.Sets.{in_set_empty}

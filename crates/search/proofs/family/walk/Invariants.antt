@@ -1,4 +1,4 @@
-use Rattle.std.proofs.Common.{◌≡◌, ◌≤◌, true, ◌||◌, ◌⊎◌}
+use Rattle.std.proofs.Common.{◌≡◌, ◌≤◌, true, ◌⊎◌}
 use Rattle.word_set.specs.Bits.{in_set}
 use Rattle.search.specs.State.{group_at, head_by}
 use Rattle.search.proofs.Records.{Leads}

@@ -1,9 +1,5 @@
-use Rattle.std.proofs.Common.{◌≡◌, ℕ, suc, ◌+◌, ◌-◌, ◌*◌, ◌^◌, ◌<◌, ◌≤◌, length, sym, refl, ap, ◌∙◌, subst, arith}
-use Rattle.tree.specs.Chains.{Word}
+use Rattle.std.proofs.Common.{arith}
 use Rattle.search.specs.Arcs.{allowed, arc_worth}
-use Rattle.search.specs.State.{State, Room}
-use Rattle.search.specs.Ring.{Laid}
-use Rattle.search.specs.State.{group_at, family}
 use Rattle.search.proofs.Steps.{state_laid}
 use Rattle.search.proofs.merging.grow.Goals as goal
 

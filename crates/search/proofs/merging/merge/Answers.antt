@@ -1,10 +1,10 @@
-use Rattle.std.proofs.Common.{◌≡◌, ℕ, suc, ◌+◌, ◌-◌, ◌*◌, ◌^◌, ◌<◌, ◌≤◌, true, false, ◌&&◌, length, sym, refl, ap, ◌∙◌, subst, arith}
+use Rattle.std.proofs.Common.{◌+◌, ◌^◌, ◌<◌, ◌&&◌, length, sym, refl, subst, arith}
 use Rattle.std.proofs.lemmas.Bool.{false≢true}
-use Rattle.weight.specs.Worth.{Worth, plus, Within}
+use Rattle.weight.specs.Worth.{Within}
 use Rattle.arborescence.specs.Search.{leads}
 use Rattle.word_set.specs.Bits.{in_set}
 use Rattle.weight.specs.Layers.{root_worth}
-use Rattle.search.specs.Arcs.{allowed, arc_worth, potential}
+use Rattle.search.specs.Arcs.{allowed, arc_worth}
 use Rattle.search.specs.Family.{rep_of}
 use Rattle.search.specs.State.{group_at, family, State}
 use Rattle.search.proofs.Steps.{state_laid, state_value, state_added, state_all, state_room, none_after, new_added, state_after}

@@ -1,8 +1,7 @@
-use Rattle.std.proofs.Common.{◌≡◌, ℕ, suc, ◌+◌, ◌-◌, ◌*◌, ◌^◌, ◌<◌, ◌≤◌, Bool, length, sym, refl, ap, ◌∙◌, subst, arith, rules}
+use Rattle.std.proofs.Common.{◌≡◌, ℕ, ◌+◌, ◌^◌, ◌<◌, Bool, length, sym, ap, ◌∙◌, subst, arith}
 use Rattle.weight.specs.Worth.{Worth, plus, minus, Within}
 use Rattle.tree.specs.Chains.{Word}
 use Rattle.weight.proofs.Worths.{within_more, within_plus}
-use Rattle.search.proofs.Scan.{element}
 use Rattle.word_set.specs.Bits.{in_set}
 use Rattle.weight.specs.Layers.{root_worth}
 use Rattle.search.specs.Arcs.{potential}

@@ -1,4 +1,4 @@
-use Rattle.std.proofs.Common.{◌≡◌, ℕ, ◌-◌, ◌<◌, ◌≤◌, cond}
+use Rattle.std.proofs.Common.{◌≡◌, ℕ, ◌<◌, ◌≤◌, cond}
 use Rattle.weight.specs.Worth.{plus, minus}
 use Rattle.tree.specs.Chains.{Word}
 use Rattle.word_set.specs.Bits.{in_set}

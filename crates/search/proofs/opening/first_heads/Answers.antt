@@ -1,6 +1,6 @@
-use Rattle.std.proofs.Common.{◌≡◌, ℕ, ◌+◌, ◌-◌, ◌<◌, ◌≤◌, ◌⊎◌, length, sym, refl, ap, ◌∙◌, subst, inl, inr, arith}
+use Rattle.std.proofs.Common.{◌≡◌, ℕ, ◌<◌, length, sym, ap, ◌∙◌, inl, inr, arith}
 use Rattle.std.proofs.lemmas.Bool.{cases_eq}
-use Rattle.tree.specs.Chains.{Word, head_of}
+use Rattle.tree.specs.Chains.{head_of}
 use Rattle.search.specs.Family.{Group}
 use Rattle.search.specs.State.{group_at}
 use Rattle.search.proofs.Records.{node_is}

@@ -1,11 +1,10 @@
-use Rattle.std.proofs.Common.{◌≡◌, ℕ, suc, ◌+◌, ◌-◌, ◌*◌, ◌<◌, ◌≤◌, Bool, true, false, eqb, length, sym, refl, ap, ◌∙◌, subst, arith}
+use Rattle.std.proofs.Common.{◌≡◌, ℕ, suc, ◌-◌, true, false, eqb, length, sym, ap, ◌∙◌, subst, arith}
 use Rattle.weight.specs.Worth.{Worth, zeros}
-use Rattle.tree.specs.Chains.{Word, head_of}
+use Rattle.tree.specs.Chains.{head_of}
 use Rattle.arborescence.specs.Sum.{sum_if}
 use Rattle.arborescence.specs.Search.{leads}
-use Rattle.word_set.specs.Bits.{in_set}
 use Rattle.search.specs.Family.{Group, rep_of, best_of}
-use Rattle.search.specs.State.{view, group_at, family}
+use Rattle.search.specs.State.{group_at, family}
 use Rattle.search.specs.Opening.{Opened, Meets}
 use Rattle.word_set.proofs.Sets.{in_set_empty}
 use Rattle.search.proofs.Stages.{valid_laid}

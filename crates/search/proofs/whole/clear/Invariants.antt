@@ -1,4 +1,4 @@
-use Rattle.std.proofs.Common.{◌≡◌, ℕ, suc, ◌<◌, ◌≤◌}
+use Rattle.std.proofs.Common.{◌≡◌, ℕ, suc, ◌<◌}
 use Rattle.weight.specs.Worth.{zeros}
 use Rattle.search.specs.Arcs.{potential}
 use Rattle.search.proofs.whole.clear.Given as goal

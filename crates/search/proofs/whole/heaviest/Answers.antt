@@ -1,6 +1,6 @@
-use Rattle.std.proofs.Common.{◌≡◌, ℕ, suc, Bool, sym, refl, ◌∙◌, arith}
+use Rattle.std.proofs.Common.{suc, sym, arith}
 use Rattle.std.proofs.lemmas.Bool.{false≢true}
-use Rattle.weight.specs.Worth.{Worth, zeros}
+use Rattle.weight.specs.Worth.{zeros}
 use Rattle.search.specs.Arcs.{allowed, arc_worth}
 use Rattle.search.specs.State.{group_at}
 use Rattle.search.proofs.Heads.{lined}

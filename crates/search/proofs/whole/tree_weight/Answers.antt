@@ -1,4 +1,4 @@
-use Rattle.std.proofs.Common.{◌≡◌, ℕ, suc, ◌+◌, ◌-◌, ◌*◌, ◌^◌, ◌≤◌, true, get_or, sym, refl, ap, ◌∙◌, subst, arith}
+use Rattle.std.proofs.Common.{◌≡◌, ℕ, suc, ◌+◌, ◌-◌, ◌*◌, ◌^◌, ◌≤◌, true, sym, refl, ap, ◌∙◌, subst, arith}
 use Rattle.weight.specs.Worth.{Worth, zeros, plus, Within}
 use Rattle.weight.specs.Layers.{root_worth}
 use Rattle.weight.proofs.Worths.{within_more}

@@ -1,7 +1,7 @@
 use Rattle.tree.proofs.Walks.{Leads, leads_none, leads_more, fewer, one_more, all_cycle_free, met_again, cycle_word, no_longer_free, rooted_is_cycle_free, on_cycle_runs}
 use Rattle.tree.proofs.cycle.find_cycle.Goals as goal
 use Rattle.tree.specs.Chains.{Reaches, head_of}
-use Rattle.std.proofs.Common.{◌≡◌, sym, refl, subst, rules, below_more}
+use Rattle.std.proofs.Common.{sym, refl, subst, rules, below_more}
 
 pub loop-word-init : goal.loop-word-init
 loop-word-init c = search (rules, leads_none)
