@@ -1,7 +1,7 @@
 -- The steps of a ranking.
 use Rattle.std.proofs.Common.{◌≡◌, ℕ, zero, suc, ◌+◌, ◌<◌, ◌≤◌, Bool, true, false, cond, not, ◌&&◌, leb, ◌⊎◌, List, [], ◌∷◌, length, Decides, sym, refl, ap, ◌∙◌, subst, inl, inr, arith}
 use Rattle.std.specs.List.Sorted.{IsPermutation}
-use Rattle.std.specs.List.{AllByRecursion as All}
+use Rattle.std.specs.List.{AllByRecursion}
 use Rattle.std.specs.Str.{bytes_eq}
 use Rattle.std.proofs.ByRecursion.{All-weaker, all_shuffled}
 use Rattle.std.proofs.lemmas.List.Sorted.{sum_by-IsPermutation}
@@ -19,7 +19,7 @@ use Rattle.cells.specs.Steps.{Steps, AllSteps}
 use Rattle.cells.proofs.Parting.{same_all, apart_all, same_before, in_cell_decides, split}
 use Rattle.cells.proofs.Counts.{one_if, none_if, as_many, count_cons, count_all, counted, times_cons, among_times, times_among, test_at_most, at_most_test}
 
-all_both : {X : Type 0} (P Q : X → Type 0) (xs : List X) → All P xs → All Q xs → All (λ x. P x × Q x) xs
+all_both : {X : Type 0} (P Q : X → Type 0) (xs : List X) → AllByRecursion P xs → AllByRecursion Q xs → AllByRecursion (λ x. P x × Q x) xs
 all_both P Q [] h k = tt
 all_both P Q (x ∷ xs) h k = ((h.0, k.0), all_both P Q xs h.1 k.1)
 
@@ -260,7 +260,7 @@ module _ (n : ℕ) (Tree : List ℕ → Type 0) (value : List ℕ → Worth) {X 
           let q = count_cons (λ c. holds t (view c)) x cs in
           omega arith
 
-      below : All (λ c. AtMost (view c).worth (view x).worth) (x ∷ cs)
+      below : AllByRecursion (λ c. AtMost (view c).worth (view x).worth) (x ∷ cs)
       below = (at_most_refl (view x).worth, All-weaker (λ c. heavier (view c) (view x) ≡ false) (λ c. AtMost (view c).worth (view x).worth) (λ c e. at_most_test _ _ (not-false (at_most (view c).worth (view x).worth) e)) cs greatest)
 
       best : (t : List ℕ) → Tree t → (Among t ts → ⊥) → (1 ≤ Homes ts u (suc n) (x ∷ cs) t) ⊎ (limit ≤ length ts + Over (x ∷ cs) t) → AtMost (value t) (view x).worth

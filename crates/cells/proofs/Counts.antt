@@ -1,6 +1,6 @@
 -- Counts by a test, and how often a tree was taken.
 use Rattle.std.proofs.Common.{◌≡◌, ℕ, ◌+◌, ◌≤◌, Bool, true, false, cond, T, ◌⊎◌, List, [], ◌∷◌, length, count_by, sym, refl, ap, subst, inl, inr, arith}
-use Rattle.std.specs.List.{AllByRecursion as All}
+use Rattle.std.specs.List.{AllByRecursion}
 use Rattle.std.specs.Str.{bytes_eq}
 use Rattle.std.proofs.lemmas.List.Sums.{sum_by-cons}
 use Rattle.std.proofs.lemmas.Slice.Eq.{bytes_eq-Decides}
@@ -19,7 +19,7 @@ as_many a b e = ap (λ (x : Bool). cond {A = ℕ} x 1 0) e
 pub count_cons : {X : Type 0} (p : X → Bool) (x : X) (xs : List X) → count_by p (x ∷ xs) ≡ cond (p x) 1 0 + count_by p xs
 count_cons p x xs = sum_by-cons (λ y. cond (p y) 1 0) x xs
 
-pub count_all : {X : Type 0} (p : X → Bool) (xs : List X) → All (λ x. p x ≡ true) xs → count_by p xs ≡ length xs
+pub count_all : {X : Type 0} (p : X → Bool) (xs : List X) → AllByRecursion (λ x. p x ≡ true) xs → count_by p xs ≡ length xs
 count_all p [] h = refl
 count_all p (x ∷ xs) h =
     let c = count_cons p x xs in
@@ -27,7 +27,7 @@ count_all p (x ∷ xs) h =
     omega (arith, count_all p xs h.1)
 
 -- of those that a test counts one can be had, with what holds of all
-pub counted : {X : Type 0} (p : X → Bool) (Q : X → Type 0) (R : Type 0) (xs : List X) → All Q xs → ((x : X) → Q x → p x ≡ true → R) → 1 ≤ count_by p xs → R
+pub counted : {X : Type 0} (p : X → Bool) (Q : X → Type 0) (R : Type 0) (xs : List X) → AllByRecursion Q xs → ((x : X) → Q x → p x ≡ true → R) → 1 ≤ count_by p xs → R
 counted p Q R [] h then le = absurd (omega arith)
 counted p Q R (x ∷ xs) h then le = by (p x) refl (counted p Q R xs h.1 then)
   where

@@ -1,6 +1,6 @@
 -- What the counts say in words.
 use Rattle.std.proofs.Common.{◌≡◌, ℕ, zero, suc, ◌+◌, ◌<◌, ◌≤◌, Bool, true, false, cond, ◌⊎◌, List, [], ◌∷◌, length, get_or, count_by, refl, inl, inr, arith}
-use Rattle.std.specs.List.{AllByRecursion as All}
+use Rattle.std.specs.List.{AllByRecursion}
 use Rattle.std.proofs.lemmas.List.Sums.{get_or-le-sum_by}
 use Rattle.std.proofs.lemmas.Bool.{cases_Bool, cases_lt, cases_order}
 use Rattle.weight.specs.Worth.{Worth}
@@ -28,7 +28,7 @@ module _ {X : Type 0} (p : X → Bool) where
       let c = count_cons p x xs in
       omega (arith, count_two xs i j d (omega arith) (omega arith) e f)
 
-  count_none : (xs : List X) → count_by p xs ≡ 0 → All (λ x. p x ≡ false) xs
+  count_none : (xs : List X) → count_by p xs ≡ 0 → AllByRecursion (λ x. p x ≡ false) xs
   count_none [] e = tt
   count_none (x ∷ xs) e =
       let c = count_cons p x xs in
@@ -38,7 +38,7 @@ module _ {X : Type 0} (p : X → Bool) where
       by (inl t) = absurd (let c = count_cons p x xs in let b = one_if (p x) t in omega arith)
       by (inr f) = f
 
-  none_count : (xs : List X) → All (λ x. p x ≡ false) xs → count_by p xs ≡ 0
+  none_count : (xs : List X) → AllByRecursion (λ x. p x ≡ false) xs → count_by p xs ≡ 0
   none_count [] h = refl
   none_count (x ∷ xs) h =
       let c = count_cons p x xs in
@@ -70,7 +70,7 @@ module _ (n : ℕ) (Tree : List ℕ → Type 0) (value : List ℕ → Worth) {X 
       left t (inr e) le = e
 
       found : (t : List ℕ) → (1 ≤ homes n Tree value view ts u p cs t) ⊎ (limit ≤ length ts + over n Tree value view cs t) → (0 < times t ts) ⊎ (times t ts ≤ 0) → (pending n u.heads u.from u.banned p t ≡ true) ⊎ (pending n u.heads u.from u.banned p t ≡ false) →
-          Among t ts ⊎ ((pending n u.heads u.from u.banned p t ≡ true) ⊎ ((All (λ c. holds t (view c) ≡ false) cs → ⊥) ⊎ (limit ≤ length ts + over n Tree value view cs t)))
+          Among t ts ⊎ ((pending n u.heads u.from u.banned p t ≡ true) ⊎ ((AllByRecursion (λ c. holds t (view c) ≡ false) cs → ⊥) ⊎ (limit ≤ length ts + over n Tree value view cs t)))
       found t h (inl l) e = inl (times_among t ts l)
       found t h (inr l) (inl e) = inr (inl e)
       found t (inl h) (inr l) (inr e) =

@@ -1,6 +1,6 @@
 -- What a ranking keeps true between its steps
 use Rattle.std.specs.Prelude.{◌≡◌, ℕ, suc, ◌+◌, ◌≤◌, Bool, true, false, cond, not, ◌⊎◌, List, [], ◌∷◌, length, count_by}
-use Rattle.std.specs.List.{AllByRecursion as All}
+use Rattle.std.specs.List.{AllByRecursion}
 use Rattle.std.specs.Str.{bytes_eq}
 use Rattle.weight.specs.Worth.{Worth, at_most, AtMost}
 use Rattle.tree.specs.Chains.{Word, head_of}
@@ -69,6 +69,6 @@ module _ (n : ℕ) (Tree : List ℕ → Type 0) (value : List ℕ → Worth) whe
       pub some : 1 ≤ u.from
       pub low : u.from ≤ p
       pub high : p ≤ suc n
-      pub waiting : All (λ c. BestOfCell (view c)) cs
+      pub waiting : AllByRecursion (λ c. BestOfCell (view c)) cs
       pub once : (t : List ℕ) → Tree t → homes ts u p cs t ≤ 1
       pub found : (t : List ℕ) → Tree t → (1 ≤ homes ts u p cs t) ⊎ (limit ≤ length ts + over cs t)

@@ -1,6 +1,6 @@
 -- What a ranking keeps true, in words and without counts of cells
 use Rattle.std.specs.Prelude.{◌≡◌, ℕ, ◌+◌, ◌<◌, ◌≤◌, Bool, true, false, ◌⊎◌, List, length, ◌≢◌, slice_index_or}
-use Rattle.std.specs.List.{AllByRecursion as All}
+use Rattle.std.specs.List.{AllByRecursion}
 use Rattle.weight.specs.Worth.{Worth}
 use Rattle.arborescence.specs.Heads.{TreeOver, worth_from}
 use Rattle.cells.specs.Cells.{pending}
@@ -15,13 +15,13 @@ module _ (n : ℕ) (Tree : List ℕ → Type 0) (value : List ℕ → Worth) {X 
     -- no tree lies in two waiting cells
     pub apart : (t : List ℕ) → Tree t → EachTwo (λ a b. holds t (view a) ≡ true → holds t (view b) ≢ true) cs
     -- no taken tree lies in a waiting cell, or in what is left of the current one
-    pub untaken : (t : List ℕ) → Tree t → Among t ts → All (λ c. holds t (view c) ≡ false) cs × (pending n u.heads u.from u.banned p t ≡ false)
+    pub untaken : (t : List ℕ) → Tree t → Among t ts → AllByRecursion (λ c. holds t (view c) ≡ false) cs × (pending n u.heads u.from u.banned p t ≡ false)
     -- nor does one lie in both
-    pub aside : (t : List ℕ) → Tree t → pending n u.heads u.from u.banned p t ≡ true → All (λ c. holds t (view c) ≡ false) cs
+    pub aside : (t : List ℕ) → Tree t → pending n u.heads u.from u.banned p t ≡ true → AllByRecursion (λ c. holds t (view c) ≡ false) cs
     -- every tree is taken, or lies in what is left of the current cell, or in a waiting cell, or enough waiting ones are not lighter
     pub found :
         (t : List ℕ) → Tree t →
-        Among t ts ⊎ ((pending n u.heads u.from u.banned p t ≡ true) ⊎ ((All (λ c. holds t (view c) ≡ false) cs → ⊥) ⊎ (limit ≤ length ts + over n Tree value view cs t)))
+        Among t ts ⊎ ((pending n u.heads u.from u.banned p t ≡ true) ⊎ ((AllByRecursion (λ c. holds t (view c) ≡ false) cs → ⊥) ⊎ (limit ≤ length ts + over n Tree value view cs t)))
 
 abbrev pub Worded : Type 0
 Worded =

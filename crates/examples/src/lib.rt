@@ -3,9 +3,9 @@
 
 ghost use Rattle.examples.specs.Lines.{Right};
 ghost use Rattle.examples.specs.Worked.{worked_lines};
-ghost use Rattle.std.specs.List.{AllByRecursion as All};
+ghost use Rattle.std.specs.List.{AllByRecursion};
 
 // Each line has just the answers that are listed.
 pub fn worked_lines()
-    ensures { All Right worked_lines }
+    ensures { AllByRecursion Right worked_lines }
 {}

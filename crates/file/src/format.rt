@@ -2,7 +2,7 @@
 ghost use Rattle.std.specs.Prelude.{◌≡◌, ℕ, ◌+◌, ◌≤◌, List, [], ◌∷◌, length, slice_index};
 ghost use Rattle.file.specs.Formats.{cost_at, mark_at, number_at, score_at};
 ghost use Rattle.file.specs.declared.fault.FileKind.TheVariants.{Score as ScoreFile, Cost as CostFile, Mark as MarkFile};
-ghost use Rattle.file.specs.declared.fault.FileKind.{FileKind as The-kind};
+ghost use Rattle.file.specs.declared.fault.FileKind.{FileKind as TheKind};
 ghost use Rattle.std.proofs.Common.{lit≤};
 
 use crate::fault::FileKind;
@@ -10,7 +10,7 @@ use weight::{Cost, Mark, Opens, Score};
 
 // A kind that a file can hold.
 pub(crate) trait Recorded: Opens {
-    ghost kind: { The-kind };
+    ghost kind: { TheKind };
 
     // how many bytes a weight has
     ghost width: { ℕ };

@@ -89,7 +89,7 @@ fn read<K: Recorded + Copy>(
     merges: &[Node<K>],
     potentials: &[Root<K>],
 ) -> Result<Sheet<K>, FileFault>
-    ensures { ReadAs (format_of K.Recorded.kind K.Recorded.width K.Recorded.decoded K.Kind.ranges K.Kind.worth) (record { weights = length weights.entry.now; sets = length sets.old; candidates = length candidates.now; nodes = length nodes.now; merges = length merges.now; potentials = length potentials.now }) file.now result weights.entry.now weights.exit.now sets.old sets.new }
+    ensures { ReadAs (format_of K.Recorded.kind K.Recorded.width K.Recorded.decoded K.Kind.ranges K.Kind.worth) (record { weights = length weights.old; sets = length sets.old; candidates = length candidates.now; nodes = length nodes.now; merges = length merges.now; potentials = length potentials.now }) file.now result weights.old weights.new sets.old sets.new }
 {
     let words = frame_words::<K>(file)?;
     let sheet = open(words, weights, sets, candidates, nodes, merges, potentials)?;
@@ -109,7 +109,7 @@ pub fn read_scores(
     merges: &[Node<Score>],
     potentials: &[Root<Score>],
 ) -> Result<Sheet<Score>, FileFault>
-    ensures { ReadAs score_format (record { weights = length weights.entry.now; sets = length sets.old; candidates = length candidates.now; nodes = length nodes.now; merges = length merges.now; potentials = length potentials.now }) file.now result weights.entry.now weights.exit.now sets.old sets.new }
+    ensures { ReadAs score_format (record { weights = length weights.old; sets = length sets.old; candidates = length candidates.now; nodes = length nodes.now; merges = length merges.now; potentials = length potentials.now }) file.now result weights.old weights.new sets.old sets.new }
 {
     read::<Score>(file, weights, sets, candidates, nodes, merges, potentials)
 }
@@ -124,7 +124,7 @@ pub fn read_costs(
     merges: &[Node<Cost>],
     potentials: &[Root<Cost>],
 ) -> Result<Sheet<Cost>, FileFault>
-    ensures { ReadAs cost_format (record { weights = length weights.entry.now; sets = length sets.old; candidates = length candidates.now; nodes = length nodes.now; merges = length merges.now; potentials = length potentials.now }) file.now result weights.entry.now weights.exit.now sets.old sets.new }
+    ensures { ReadAs cost_format (record { weights = length weights.old; sets = length sets.old; candidates = length candidates.now; nodes = length nodes.now; merges = length merges.now; potentials = length potentials.now }) file.now result weights.old weights.new sets.old sets.new }
 {
     read::<Cost>(file, weights, sets, candidates, nodes, merges, potentials)
 }
@@ -139,7 +139,7 @@ pub fn read_marks(
     merges: &[Node<Mark<Score>>],
     potentials: &[Root<Mark<Score>>],
 ) -> Result<Sheet<Mark<Score>>, FileFault>
-    ensures { ReadAs mark_format (record { weights = length weights.entry.now; sets = length sets.old; candidates = length candidates.now; nodes = length nodes.now; merges = length merges.now; potentials = length potentials.now }) file.now result weights.entry.now weights.exit.now sets.old sets.new }
+    ensures { ReadAs mark_format (record { weights = length weights.old; sets = length sets.old; candidates = length candidates.now; nodes = length nodes.now; merges = length merges.now; potentials = length potentials.now }) file.now result weights.old weights.new sets.old sets.new }
 {
     read::<Mark<Score>>(file, weights, sets, candidates, nodes, merges, potentials)
 }

@@ -6,7 +6,7 @@ use Rattle.std.proofs.ByRecursion.{All-append, All-push}
 use Rattle.std.proofs.lemmas.Int.{ints}
 use Rattle.std.proofs.lemmas.Bool.{ne_eqb}
 use Rattle.std.specs.Fmt.{signed_decimal}
-use Rattle.std.specs.List.{AllByRecursion as All}
+use Rattle.std.specs.List.{AllByRecursion}
 use Rattle.text.specs.Spaced.{spaced}
 use Rattle.weight.specs.Text.{text}
 use Rattle.weight.specs.Worth.{Worth, Within}
@@ -15,23 +15,23 @@ abbrev NotTab : ℕ → Type 0
 NotTab b = eqb b 9 ≡ false
 
 -- the first TAB behind bytes that are none
-before_first : (t u : List ℕ) → All NotTab t → before_tab (t ++ (9 ∷ u)) ≡ t
+before_first : (t u : List ℕ) → AllByRecursion NotTab t → before_tab (t ++ (9 ∷ u)) ≡ t
 before_first [] u h = refl
 before_first (b ∷ bs) u h = rw h.0 (ap (λ l. b ∷ l) (before_first bs u h.1))
 
-behind_first : (t u : List ℕ) → All NotTab t → behind_tab (t ++ (9 ∷ u)) ≡ u
+behind_first : (t u : List ℕ) → AllByRecursion NotTab t → behind_tab (t ++ (9 ∷ u)) ≡ u
 behind_first [] u h = refl
 behind_first (b ∷ bs) u h = rw h.0 (behind_first bs u h.1)
 
-not_tab_decimal : (n : ℕ) → n < 2 ^ 64 → All NotTab (decimal n)
+not_tab_decimal : (n : ℕ) → n < 2 ^ 64 → AllByRecursion NotTab (decimal n)
 not_tab_decimal n h =
-    decimal_by_steps (λ _ ds. All NotTab ds) (λ n l. (ne_eqb (48 + n) 9 (λ e. omega arith), tt)) (λ n ds l k. All-push NotTab ds (48 + n % 10) k (ne_eqb (48 + n % 10) 9 (λ e. omega arith))) n h
+    decimal_by_steps (λ _ ds. AllByRecursion NotTab ds) (λ n l. (ne_eqb (48 + n) 9 (λ e. omega arith), tt)) (λ n ds l k. All-push NotTab ds (48 + n % 10) k (ne_eqb (48 + n % 10) 9 (λ e. omega arith))) n h
 
-not_tab_signed : (x : ℤ) → neg_ℤ (pos (2 ^ 40)) ≤ℤ x → x ≤ℤ pos (2 ^ 40) → All NotTab (signed_decimal x)
+not_tab_signed : (x : ℤ) → neg_ℤ (pos (2 ^ 40)) ≤ℤ x → x ≤ℤ pos (2 ^ 40) → AllByRecursion NotTab (signed_decimal x)
 not_tab_signed (pos n) l h = not_tab_decimal n (omega (arith, ints))
 not_tab_signed (negsuc n) l h = (ne_eqb 45 9 (λ e. omega arith), not_tab_decimal (suc n) (omega (arith, ints)))
 
-not_tab_text : (a : Worth) → Within (2 ^ 40) a → All NotTab (text a)
+not_tab_text : (a : Worth) → Within (2 ^ 40) a → AllByRecursion NotTab (text a)
 not_tab_text [] h = tt
 not_tab_text (x ∷ []) h = not_tab_signed x h.0 h.1
 not_tab_text (x ∷ (y ∷ ys)) h = All-append NotTab (signed_decimal x) (44 ∷ text (y ∷ ys)) (not_tab_signed x h.0 h.1) (ne_eqb 44 9 (λ e. omega arith), not_tab_text (y ∷ ys) h.2)

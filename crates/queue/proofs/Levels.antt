@@ -2,7 +2,7 @@
 use Rattle.std.proofs.Common.{◌≡◌, ℕ, ◌+◌, ◌-◌, ◌<◌, ◌≤◌, Bool, true, false, cond, List, [], ◌∷◌, length, get_or, take, drop, count_by, refl, ap, ◌∙◌, arith, length-drop}
 use Rattle.std.specs.Cmp.{IsStrictWeakOrder}
 use Rattle.std.specs.List.Sorted.{IsPermutation}
-use Rattle.std.specs.List.{AllByRecursion as All}
+use Rattle.std.specs.List.{AllByRecursion}
 use Rattle.std.proofs.ByRecursion.{All-from_get_or}
 use Rattle.std.proofs.lemmas.List.{get_or-take, get_or-drop, length-take-le}
 use Rattle.std.proofs.lemmas.List.Sorted.{sum_by-IsPermutation, length_permutation, IsPermutation-sym}
@@ -17,14 +17,14 @@ none_if : (b : Bool) → b ≡ false → ◌≡◌ {A = ℕ} (cond b 1 0) 0
 none_if b e = ap (λ (x : Bool). cond {A = ℕ} x 1 0) e
 
 module _ {X : Type 0} (p : X → Bool) where
-  count_all : (xs : List X) → All (λ x. p x ≡ true) xs → count_by p xs ≡ length xs
+  count_all : (xs : List X) → AllByRecursion (λ x. p x ≡ true) xs → count_by p xs ≡ length xs
   count_all [] h = refl
   count_all (x ∷ xs) h =
       let c = sum_by-cons (λ y. cond (p y) 1 0) x xs in
       let e = one_if (p x) h.0 in
       omega (arith, count_all xs h.1)
 
-  count_none : (xs : List X) → All (λ x. p x ≡ false) xs → count_by p xs ≡ 0
+  count_none : (xs : List X) → AllByRecursion (λ x. p x ≡ false) xs → count_by p xs ≡ 0
   count_none [] h = refl
   count_none (x ∷ xs) h =
       let c = sum_by-cons (λ y. cond (p y) 1 0) x xs in

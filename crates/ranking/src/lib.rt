@@ -137,7 +137,7 @@ pub fn take<K: Opens + Copy>(
     potentials: &mut [Root<K>],
     space: &mut [u8],
 ) -> Result<Taken<K>, Refusal>
-    ensures { Took K.Kind.worth K.Kind.ranges ranking.old ranking.new (record { weights = weights.entry.now; sets = sets.old; candidates = candidates.old; nodes = nodes.old; merges = merges.old; potentials = potentials.old }) (record { weights = weights.entry.now; sets = sets.new; candidates = candidates.new; nodes = nodes.new; merges = merges.new; potentials = potentials.new }) space.old space.new result }
+    ensures { Took K.Kind.worth K.Kind.ranges ranking.old ranking.new (record { weights = weights.now; sets = sets.old; candidates = candidates.old; nodes = nodes.old; merges = merges.old; potentials = potentials.old }) (record { weights = weights.now; sets = sets.new; candidates = candidates.new; nodes = nodes.new; merges = merges.new; potentials = potentials.new }) space.old space.new result }
 {
     let lengths = Lengths {
         weights: weights.len(),

@@ -4,7 +4,7 @@ use Rattle.reading.specs.Reading.{is_digit, with_digit, go_on, read_on}
 use Rattle.reading.specs.Spaced.{Spells, SpellsNone, SpelledOnce}
 use Rattle.std.proofs.lemmas.Fmt.{decimal_digit, decimal_step, decimal_by_steps}
 use Rattle.std.proofs.lemmas.Bool.{cases_Bool, both_ways, and_parts, and_from, leb-true, le-leb, eqb-true, eqb-false, ne_eqb, ltb-false, le-ltb}
-use Rattle.std.specs.List.{AllByRecursion as All}
+use Rattle.std.specs.List.{AllByRecursion}
 use Rattle.text.specs.Spaced.{spaced}
 
 -- the digits read of the number at hand
@@ -95,7 +95,7 @@ number_read ns = decimal_by_steps (λ n ds. n < 256 → (rest : List ℕ) → re
         ap (read_on ns None) (append_assoc ds ((48 + n % 10) ∷ []) rest) ∙ front few ((48 + n % 10) ∷ rest) ∙ rw (d, some, fits) (ap (λ m. read_on ns (Some m) rest) back)
 
 -- the text of numbers is read as those numbers
-complete : (before ns : List ℕ) → All (λ n. n < 256) ns → 1 ≤ length ns → read_on before None (spaced ns) ≡ Some (before ++ ns)
+complete : (before ns : List ℕ) → AllByRecursion (λ n. n < 256) ns → 1 ≤ length ns → read_on before None (spaced ns) ≡ Some (before ++ ns)
 complete before [] small some = absurd (omega arith)
 complete before (n ∷ []) small some = ap (read_on before None) (sym (append-nil (decimal n))) ∙ number_read before n (omega (arith, small.0)) small.0 []
 complete before (n ∷ m ∷ ns) small some =

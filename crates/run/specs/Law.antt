@@ -14,7 +14,7 @@ use Rattle.run.specs.declared.Turn.{Turn}
 use Rattle.sheet.specs.Arcs.{Arcs, no_arcs, with_arc}
 use Rattle.sheet.specs.Calls.{or_else, refuse_if, arc_check}
 use Rattle.weight.specs.Range.{Range, entry_in}
-use Rattle.std.specs.List.{AllByRecursion as All}
+use Rattle.std.specs.List.{AllByRecursion}
 use Rattle.weight.specs.Worth.{Worth, Outweighs}
 
 abbrev pub Run : Type 0 → Type 0
@@ -127,7 +127,7 @@ Apart (t ∷ ts) = (Among t ts → ⊥) × Apart ts
 
 -- the tree outweighs none of the list
 abbrev pub NotAbove : {K : Type 0} → (K → Worth) → Arcs K → List ℕ → List (List ℕ) → Type 0
-NotAbove worth arcs t ts = All (λ s. Outweighs (tree_worth worth arcs t) (tree_worth worth arcs s) → ⊥) ts
+NotAbove worth arcs t ts = AllByRecursion (λ s. Outweighs (tree_worth worth arcs t) (tree_worth worth arcs s) → ⊥) ts
 
 -- no tree outweighs one that was handed out before it
 abbrev pub Falling : {K : Type 0} → (K → Worth) → Arcs K → List (List ℕ) → Type 0
@@ -137,7 +137,7 @@ Falling worth arcs (t ∷ ts) = NotAbove worth arcs t ts × Falling worth arcs t
 pub record TrueRanking {K : Type 0} (worth : K → Worth) (n : ℕ) (arcs : Arcs K) (ts : List (List ℕ)) : Type 0 where
   pub once : Apart ts
   pub few : length ts ≤ 50
-  pub trees : All (TreeOf n arcs) ts
+  pub trees : AllByRecursion (TreeOf n arcs) ts
   pub falling : Falling worth arcs ts
   -- and none that was skipped outweighs one of them
   pub none_skipped : (t : List ℕ) → TreeOf n arcs t → (Among t ts → ⊥) → NotAbove worth arcs t ts

@@ -66,7 +66,7 @@ fn take_into<K: Opens + Copy>(
     merges: &mut [Node<K>],
     potentials: &mut [Root<K>],
 ) -> Answer<K>
-    ensures { Stepped K.Kind.worth K.Kind.ranges (Ranked ranking.old) (Ranked ranking.new) (record { weights = weights.entry.now; sets = sets.old; candidates = candidates.old; nodes = nodes.old; merges = merges.old; potentials = potentials.old }) (record { weights = weights.entry.now; sets = sets.new; candidates = candidates.new; nodes = nodes.new; merges = merges.new; potentials = potentials.new }) (Take room) result }
+    ensures { Stepped K.Kind.worth K.Kind.ranges (Ranked ranking.old) (Ranked ranking.new) (record { weights = weights.now; sets = sets.old; candidates = candidates.old; nodes = nodes.old; merges = merges.old; potentials = potentials.old }) (record { weights = weights.now; sets = sets.new; candidates = candidates.new; nodes = nodes.new; merges = merges.new; potentials = potentials.new }) (Take room) result }
 {
     let mut heads = [0; 40];
     let lent = room.min(40);
@@ -102,7 +102,7 @@ fn on_sheet<K: Opens + Copy>(
     weights: &mut [K],
     sets: &mut [u64],
 ) -> (State<K>, Answer<K>)
-    ensures { (candidates : List (Candidate K)) (nodes merges : List (Node K)) (potentials : List (Root K)) → Stepped K.Kind.worth K.Kind.ranges (Open sheet) result.0 (record { weights = weights.entry.now; sets = sets.old; candidates = candidates; nodes = nodes; merges = merges; potentials = potentials }) (record { weights = weights.exit.now; sets = sets.new; candidates = candidates; nodes = nodes; merges = merges; potentials = potentials }) call result.1 }
+    ensures { (candidates : List (Candidate K)) (nodes merges : List (Node K)) (potentials : List (Root K)) → Stepped K.Kind.worth K.Kind.ranges (Open sheet) result.0 (record { weights = weights.old; sets = sets.old; candidates = candidates; nodes = nodes; merges = merges; potentials = potentials }) (record { weights = weights.new; sets = sets.new; candidates = candidates; nodes = nodes; merges = merges; potentials = potentials }) call result.1 }
 {
     match call {
         Call::Put(head, dependent, weight) => {
@@ -132,7 +132,7 @@ fn on_ranking<K: Opens + Copy>(
     merges: &mut [Node<K>],
     potentials: &mut [Root<K>],
 ) -> (State<K>, Answer<K>)
-    ensures { Stepped K.Kind.worth K.Kind.ranges (Ranked ranking) result.0 (record { weights = weights.entry.now; sets = sets.old; candidates = candidates.old; nodes = nodes.old; merges = merges.old; potentials = potentials.old }) (record { weights = weights.entry.now; sets = sets.new; candidates = candidates.new; nodes = nodes.new; merges = merges.new; potentials = potentials.new }) call result.1 }
+    ensures { Stepped K.Kind.worth K.Kind.ranges (Ranked ranking) result.0 (record { weights = weights.now; sets = sets.old; candidates = candidates.old; nodes = nodes.old; merges = merges.old; potentials = potentials.old }) (record { weights = weights.now; sets = sets.new; candidates = candidates.new; nodes = nodes.new; merges = merges.new; potentials = potentials.new }) call result.1 }
 {
     match call {
         Call::Take(room) => {
@@ -167,7 +167,7 @@ fn step<K: Opens + Copy>(
     merges: &mut [Node<K>],
     potentials: &mut [Root<K>],
 ) -> (State<K>, Answer<K>)
-    ensures { Stepped K.Kind.worth K.Kind.ranges state result.0 (record { weights = weights.entry.now; sets = sets.old; candidates = candidates.old; nodes = nodes.old; merges = merges.old; potentials = potentials.old }) (record { weights = weights.exit.now; sets = sets.new; candidates = candidates.new; nodes = nodes.new; merges = merges.new; potentials = potentials.new }) call result.1 }
+    ensures { Stepped K.Kind.worth K.Kind.ranges state result.0 (record { weights = weights.old; sets = sets.old; candidates = candidates.old; nodes = nodes.old; merges = merges.old; potentials = potentials.old }) (record { weights = weights.new; sets = sets.new; candidates = candidates.new; nodes = nodes.new; merges = merges.new; potentials = potentials.new }) call result.1 }
 {
     match state {
         State::Open(sheet) => on_sheet(sheet, call, weights, sets),
@@ -197,7 +197,7 @@ pub fn run<K: Opens + Copy>(
     potentials: &mut [Root<K>],
     turns: &mut [Turn<K>],
 ) -> Result<(), Refusal>
-    ensures { Answered (run_check words (record { weights = length weights.entry.now; sets = length sets.old; candidates = length candidates.old; nodes = length nodes.old; merges = length merges.old; potentials = length potentials.old }) (length calls.now) (length turns.old)) result ((◌≡◌ {A = Memory K} (record { weights = weights.exit.now; sets = sets.new; candidates = candidates.new; nodes = nodes.new; merges = merges.new; potentials = potentials.new }) (record { weights = weights.entry.now; sets = sets.old; candidates = candidates.old; nodes = nodes.old; merges = merges.old; potentials = potentials.old })) × (turns.new ≡ turns.old)) (Ran K.Kind.worth K.Kind.ranges words calls.now (record { weights = weights.entry.now; sets = sets.old; candidates = candidates.old; nodes = nodes.old; merges = merges.old; potentials = potentials.old }) (record { weights = weights.exit.now; sets = sets.new; candidates = candidates.new; nodes = nodes.new; merges = merges.new; potentials = potentials.new }) turns.old turns.new) }
+    ensures { Answered (run_check words (record { weights = length weights.old; sets = length sets.old; candidates = length candidates.old; nodes = length nodes.old; merges = length merges.old; potentials = length potentials.old }) (length calls.now) (length turns.old)) result ((◌≡◌ {A = Memory K} (record { weights = weights.new; sets = sets.new; candidates = candidates.new; nodes = nodes.new; merges = merges.new; potentials = potentials.new }) (record { weights = weights.old; sets = sets.old; candidates = candidates.old; nodes = nodes.old; merges = merges.old; potentials = potentials.old })) × (turns.new ≡ turns.old)) (Ran K.Kind.worth K.Kind.ranges words calls.now (record { weights = weights.old; sets = sets.old; candidates = candidates.old; nodes = nodes.old; merges = merges.old; potentials = potentials.old }) (record { weights = weights.new; sets = sets.new; candidates = candidates.new; nodes = nodes.new; merges = merges.new; potentials = potentials.new }) turns.old turns.new) }
 {
     if turns.len() < calls.len() {
         return Err(Refusal::ShortSpace);

@@ -95,7 +95,7 @@ pub fn open<K: Opens + Copy>(
     merges: &[Node<K>],
     potentials: &[Root<K>],
 ) -> Result<Sheet<K>, Refusal>
-    ensures { Answered (open_check words (record { weights = length weights.entry.now; sets = length sets.old; candidates = length candidates.now; nodes = length nodes.now; merges = length merges.now; potentials = length potentials.now })) result (sets.new ≡ sets.old) (IfOk result (λ s. s.words ≡ words) × Holds words no_arcs weights.entry.now weights.entry.now sets.old sets.new) }
+    ensures { Answered (open_check words (record { weights = length weights.now; sets = length sets.old; candidates = length candidates.now; nodes = length nodes.now; merges = length merges.now; potentials = length potentials.now })) result (sets.new ≡ sets.old) (IfOk result (λ s. s.words ≡ words) × Holds words no_arcs weights.now weights.now sets.old sets.new) }
 {
     let lengths = Lengths {
         weights: weights.len(),

@@ -1,6 +1,6 @@
 -- How deep a word hangs, and why the brackets end.
 use Rattle.std.proofs.Common.{◌≡◌, ℕ, zero, suc, ◌+◌, ◌-◌, ◌<◌, ◌≤◌, Bool, true, false, cond, eqb, List, [], ◌∷◌, ◌++◌, length, get_or, decimal, sym, refl, ap, ◌∙◌, append-nil, arith, length-append, ne_eqb, eqb-true}
-use Rattle.std.specs.List.{AllByRecursion as All}
+use Rattle.std.specs.List.{AllByRecursion}
 use Rattle.std.proofs.ByRecursion.{All-weaker}
 use Rattle.tree.proofs.Chains.{arrives, up_root, up_past}
 use Rattle.tree.proofs.Rests.{rest}
@@ -44,7 +44,7 @@ deeper (suc m) heads d w more h e r = (
 abbrev pub Under : List ℕ → ℕ → ℕ → Type 0
 Under heads w d = (0 < d) × (d ≤ length heads) × (head_of heads d ≡ w)
 
-under_from : (heads hs : List ℕ) (i w : ℕ) → 0 < i → i + length hs ≤ length heads + 1 → ((k : ℕ) → k < length hs → get_or hs k 0 ≡ head_of heads (i + k)) → All (Under heads w) (dependents_from hs i w)
+under_from : (heads hs : List ℕ) (i w : ℕ) → 0 < i → i + length hs ≤ length heads + 1 → ((k : ℕ) → k < length hs → get_or hs k 0 ≡ head_of heads (i + k)) → AllByRecursion (Under heads w) (dependents_from hs i w)
 under_from heads [] i w h l same = tt
 under_from heads (x ∷ hs) i w h l same =
     let e : i + 0 ≡ i = omega arith in
@@ -52,20 +52,20 @@ under_from heads (x ∷ hs) i w h l same =
     let rest = under_from heads hs (i + 1) w (omega arith) (omega arith) (λ k lt. let p : i + suc k ≡ i + 1 + k = omega arith in same (suc k) (omega arith) ∙ ap (head_of heads) p) in
     go (eqb x w) refl is rest
   where
-    go : (t : Bool) → eqb x w ≡ t → x ≡ head_of heads i → All (Under heads w) (dependents_from hs (i + 1) w) → All (Under heads w) (cond t (i ∷ dependents_from hs (i + 1) w) (dependents_from hs (i + 1) w))
+    go : (t : Bool) → eqb x w ≡ t → x ≡ head_of heads i → AllByRecursion (Under heads w) (dependents_from hs (i + 1) w) → AllByRecursion (Under heads w) (cond t (i ∷ dependents_from hs (i + 1) w) (dependents_from hs (i + 1) w))
     go true e is rest = ((h, omega arith, sym is ∙ eqb-true x w e), rest)
     go false e is rest = rest
 
-under_all : (heads : List ℕ) (w : ℕ) → All (Under heads w) (dependents heads w)
+under_all : (heads : List ℕ) (w : ℕ) → AllByRecursion (Under heads w) (dependents heads w)
 under_all heads w = under_from heads heads 1 w (omega arith) (omega arith) (λ k lt. let p : suc k ≡ 1 + k = omega arith in ap (head_of heads) p)
 
-in_brackets_same : (f g : ℕ → List ℕ) (b : Bool) (ds : List ℕ) → All (λ d. f d ≡ g d) ds → in_brackets f b ds ≡ in_brackets g b ds
+in_brackets_same : (f g : ℕ → List ℕ) (b : Bool) (ds : List ℕ) → AllByRecursion (λ d. f d ≡ g d) ds → in_brackets f b ds ≡ in_brackets g b ds
 in_brackets_same f g true [] a = refl
 in_brackets_same f g false [] a = refl
 in_brackets_same f g true (d ∷ ds) a = ap (λ t. 40 ∷ (t ++ in_brackets f false ds)) a.0 ∙ ap (λ t. 40 ∷ (g d ++ t)) (in_brackets_same f g false ds a.1)
 in_brackets_same f g false (d ∷ ds) a = ap (λ t. 32 ∷ (t ++ in_brackets f false ds)) a.0 ∙ ap (λ t. 32 ∷ (g d ++ t)) (in_brackets_same f g false ds a.1)
 
-none_below : (heads : List ℕ) (w : ℕ) (ds : List ℕ) → Rooted heads → length heads ≤ depth_by (length heads) heads w → All (Under heads w) ds → ds ≡ []
+none_below : (heads : List ℕ) (w : ℕ) (ds : List ℕ) → Rooted heads → length heads ≤ depth_by (length heads) heads w → AllByRecursion (Under heads w) ds → ds ≡ []
 none_below heads w [] r h a = refl
 none_below heads w (d ∷ ds) r h a =
     let u = a.0 in

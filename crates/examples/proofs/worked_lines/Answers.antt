@@ -3,10 +3,10 @@ use Rattle.examples.proofs.worked_lines.Goals as goal
 use Rattle.examples.specs.Lines.{Right}
 use Rattle.examples.specs.Worked.{worked_lines}
 use Rattle.std.proofs.ByRecursion.{All-weaker}
-use Rattle.std.specs.List.{AllByRecursion as All}
+use Rattle.std.specs.List.{AllByRecursion}
 use Rattle.std.proofs.Common.{refl}
 
-computed : All Computed worked_lines
+computed : AllByRecursion Computed worked_lines
 computed =
     ((refl, refl), ((refl, refl), ((refl, refl), ((record { frame = refl; records = refl; standing = λ h d. refl }, (refl, refl)), ((refl, refl), ((refl, refl), ((refl, refl), ((refl, refl), ((refl, refl), (refl, tt))))))))))
 
