@@ -65,7 +65,7 @@ fn fill<K: Recorded + Copy>(
     potentials: &[Root<K>],
 ) -> Result<(), RecordFault>
     requires line { sheet.now.words ≡ words }
-    requires room { open_check words (record { weights = length weights.now; sets = length sets.old; candidates = length candidates.now; nodes = length nodes.now; merges = length merges.now; potentials = length potentials.now }) ≡ None }
+    requires room { open_check words (record { weights = length weights.old; sets = length sets.old; candidates = length candidates.now; nodes = length nodes.now; merges = length merges.now; potentials = length potentials.now }) ≡ None }
     requires long { 5 ≤ length file.now }
     ensures { Told (records_check (format_of K.Recorded.kind K.Recorded.width K.Recorded.decoded K.Kind.ranges K.Kind.worth) words file.now 0 (record_count K.Recorded.width file.now)) result (Holds words no_arcs weights.old weights.new sets.old sets.new) (Holds words (put_records (format_of K.Recorded.kind K.Recorded.width K.Recorded.decoded K.Kind.ranges K.Kind.worth) file.now 0 (record_count K.Recorded.width file.now) (arcs_in words weights.old sets.old)) weights.old weights.new sets.old sets.new) }
 {
