@@ -4,3 +4,4 @@ pub mod State
 pub mod Ring
 pub mod Opening
 pub mod Answer
+pub mod Space

@@ -2,12 +2,11 @@
 ghost use Rattle.std.specs.Prelude.{◌≡◌, ℕ, ◌+◌, ◌<◌, ◌≤◌, length, set as put};
 ghost use Rattle.search.specs.Answer.{Searched, barring};
 ghost use Rattle.search.specs.Arcs.{allowed, weight_at};
-ghost use Rattle.search.specs.State.{Room};
+ghost use Rattle.search.specs.Space.{RoomIn, SameParts};
 
-use crate::best_tree;
-use crate::family::Node;
+use crate::{Working, best_tree};
 use refusal::Refusal;
-use weight::{Kind, Root};
+use weight::Kind;
 use word_set::without;
 
 // A word's set of arcs as it was, to be restored when the search leaves.
@@ -47,29 +46,19 @@ fn search_aside<K: Kind + Copy>(
     weights: &[K],
     held: &[u8],
     barred: u64,
-    nodes: &mut [Node<K>],
-    merges: &mut [Node<K>],
-    potentials: &mut [Root<K>],
+    working: &mut Working<'_, K>,
     heads: &mut [u8],
 ) -> Result<Option<K>, Refusal>
     requires { length held.now < length sets.old }
     ensures kept { sets.new ≡ sets.old }
-    ensures told { Searched K.Kind.worth K.Kind.ranges words (barring (allowed sets.old held.now) (length held.now + 1) barred) (weight_at K.Kind.worth words weights.now) (Room words (length sets.old) (length weights.now) (length nodes.old) (length merges.old) (length potentials.old)) heads.old heads.new result }
+    ensures told { Searched K.Kind.worth K.Kind.ranges words (barring (allowed sets.old held.now) (length held.now + 1) barred) (weight_at K.Kind.worth words weights.now) (RoomIn words sets.old weights.now working.old) heads.old heads.new result }
+    ensures parts { SameParts working.old working.new }
 {
     let at = held.len();
     let saved = sets[at];
     sets[at] = without(saved, barred);
     let aside = Aside { sets, at, saved };
-    best_tree(
-        words,
-        aside.seen(),
-        weights,
-        held,
-        nodes,
-        merges,
-        potentials,
-        heads,
-    )
+    best_tree(words, aside.seen(), weights, held, working, heads)
 }
 
 // The heaviest single-root tree of the line, as `best_tree` finds it, but without the arcs from the barred heads into the first word that is not held.
@@ -80,18 +69,15 @@ pub fn best_tree_barring<K: Kind + Copy>(
     weights: &[K],
     held: &[u8],
     barred: u64,
-    nodes: &mut [Node<K>],
-    merges: &mut [Node<K>],
-    potentials: &mut [Root<K>],
+    working: &mut Working<'_, K>,
     heads: &mut [u8],
 ) -> Result<Option<K>, Refusal>
     ensures kept { sets.new ≡ sets.old }
-    ensures told { Searched K.Kind.worth K.Kind.ranges words (barring (allowed sets.old held.now) (length held.now + 1) barred) (weight_at K.Kind.worth words weights.now) (Room words (length sets.old) (length weights.now) (length nodes.old) (length merges.old) (length potentials.old)) heads.old heads.new result }
+    ensures told { Searched K.Kind.worth K.Kind.ranges words (barring (allowed sets.old held.now) (length held.now + 1) barred) (weight_at K.Kind.worth words weights.now) (RoomIn words sets.old weights.now working.old) heads.old heads.new result }
+    ensures parts { SameParts working.old working.new }
 {
     if held.len() >= sets.len() {
-        return best_tree(words, sets, weights, held, nodes, merges, potentials, heads);
+        return best_tree(words, sets, weights, held, working, heads);
     }
-    search_aside(
-        words, sets, weights, held, barred, nodes, merges, potentials, heads,
-    )
+    search_aside(words, sets, weights, held, barred, working, heads)
 }

@@ -5,13 +5,14 @@ ghost use Rattle.std.specs.Prelude.{◌≡◌, ℕ, ◌+◌, ◌*◌, ◌<◌, �
 ghost use Rattle.refusal.specs.declared.Refusal.{Refusal};
 ghost use Rattle.search.specs.Answer.{Line, FirstRefusal, Searched};
 ghost use Rattle.search.specs.Arcs.{allowed, weight_at};
+ghost use Rattle.search.specs.Space.{RoomIn, SameParts};
 ghost use Rattle.search.specs.State.{Room};
 ghost use Rattle.tree.specs.Chains.{Word, head_of};
 
 use crate::arcs::all_entries;
 use crate::whole::{heaviest, tree_weight};
 use refusal::Refusal;
-use weight::{Kind, Root};
+use weight::Kind;
 
 mod arcs;
 mod aside;
@@ -20,9 +21,11 @@ mod family;
 mod merging;
 mod opening;
 mod whole;
+mod working;
 
 pub use aside::best_tree_barring;
 pub use family::Node;
+pub use working::Working;
 
 // The first check that fails: the number of words, the memory, the space for the heads.
 fn check(
@@ -72,20 +75,19 @@ pub fn best_tree<K: Kind + Copy>(
     sets: &[u64],
     weights: &[K],
     held: &[u8],
-    nodes: &mut [Node<K>],
-    merges: &mut [Node<K>],
-    potentials: &mut [Root<K>],
+    working: &mut Working<'_, K>,
     heads: &mut [u8],
 ) -> Result<Option<K>, Refusal>
-    ensures { Searched K.Kind.worth K.Kind.ranges words (allowed sets.now held.now) (weight_at K.Kind.worth words weights.now) (Room words (length sets.now) (length weights.now) (length nodes.old) (length merges.old) (length potentials.old)) heads.old heads.new result }
+    ensures told { Searched K.Kind.worth K.Kind.ranges words (allowed sets.now held.now) (weight_at K.Kind.worth words weights.now) (RoomIn words sets.now weights.now working.old) heads.old heads.new result }
+    ensures parts { SameParts working.old working.new }
 {
     check(
         words,
         sets.len(),
         weights.len(),
-        nodes.len(),
-        merges.len(),
-        potentials.len(),
+        working.nodes.len(),
+        working.merges.len(),
+        working.potentials.len(),
         heads.len(),
     )?;
     if !all_entries(words, sets, held, weights) {
@@ -93,7 +95,14 @@ pub fn best_tree<K: Kind + Copy>(
     }
     let mut found = [0; 40];
     if !heaviest(
-        words, sets, held, weights, nodes, merges, potentials, &mut found,
+        words,
+        sets,
+        held,
+        weights,
+        working.nodes,
+        working.merges,
+        working.potentials,
+        &mut found,
     ) {
         return Ok(None);
     }

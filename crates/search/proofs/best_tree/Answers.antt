@@ -20,8 +20,8 @@ heaviest-requires g c =
       sound = sound W.worth W.places W.sized c.args.words c.args.weights.now k.1.weights_in W.ranges W.ranged.1 (allowed c.args.sets.now c.args.held.now) c.if-not-all_entries.ensures;
     }
 
-pub returns-then-not-heaviest : goal.returns-then-not-heaviest
-returns-then-not-heaviest g c =
+pub returns-then-not-heaviest-clause-told : goal.returns-then-not-heaviest-clause-told
+returns-then-not-heaviest-clause-told g c =
     let k = c.in_ok-check.ensures in
     (k.0, k.1, k.2, refl, λ _. no_tree c.args.words (allowed c.args.sets.now c.args.held.now) (c.heaviest.ensures.none c.if-not-heaviest.true))
 
@@ -36,8 +36,8 @@ tree_weight-total-requires g c =
       arcs = (best.in_line, λ w v. s.small (head_of c.heaviest.new.heads w) w v (best.in_line w v) (best.standing w v));
     }
 
-pub returns-then-place : goal.returns-then-place
-returns-then-place g c =
+pub returns-then-place-clause-told : goal.returns-then-place-clause-told
+returns-then-place-clause-told g c =
     let W = g.K.Kind in
     let n : ℕ = c.args.words in
     let k = c.in_ok-check.ensures in
@@ -55,8 +55,8 @@ returns-then-place g c =
           (λ e. let z : c.place.result ≡ negsuc 0 = c.place.ensures ∙ (ap (λ (x : Worth). get_or x 0 (pos 0)) total ∙ e) in c.if-place.true (omega (arith, ints))),
     )
 
-pub returns : goal.returns
-returns g c =
+pub returns-clause-told : goal.returns-clause-told
+returns-clause-told g c =
     let W = g.K.Kind in
     let n : ℕ = c.args.words in
     let k = c.in_ok-check.ensures in

@@ -12,6 +12,7 @@ returns-then-held-sets g c =
     record {
       kept = refl;
       told = searched_same W.worth W.ranges c.args.words a (barring a (length c.args.held.now + 1) c.args.barred) (weight_at W.worth c.args.words c.args.weights.now)
-          (Room c.args.words (length c.args.sets.now) (length c.args.weights.now) (length c.args.nodes.now) (length c.args.merges.now) (length c.args.potentials.now)) c.args.heads.now c.best_tree.new.heads c.best_tree.result
-          (λ room h d v. barring_none c.args.words c.args.sets.now c.args.held.now c.args.barred h d (omega (arith, room.sets_in, c.if-held-sets.true)) v) c.best_tree.ensures;
+          (Room c.args.words (length c.args.sets.now) (length c.args.weights.now) (length c.args.working.now.nodes.now) (length c.args.working.now.merges.now) (length c.args.working.now.potentials.now)) c.args.heads.now c.best_tree.new.heads c.best_tree.result
+          (λ room h d v. barring_none c.args.words c.args.sets.now c.args.held.now c.args.barred h d (omega (arith, room.sets_in, c.if-held-sets.true)) v) c.best_tree.ensures.told;
+      parts = c.best_tree.ensures.parts;
     }

@@ -16,12 +16,13 @@ returns g c =
     let less : List ℕ = set sets (length held) c.without.result in
     let b : ℕ → ℕ → Bool = barring (allowed sets held) (length held + 1) c.args.barred in
     let worth : ℕ → ℕ → Worth = weight_at W.worth n c.args.weights.now in
-    let room : ℕ → Type 0 = λ k. Room n k (length c.args.weights.now) (length c.args.nodes.now) (length c.args.merges.now) (length c.args.potentials.now) in
+    let room : ℕ → Type 0 = λ k. Room n k (length c.args.weights.now) (length c.args.working.now.nodes.now) (length c.args.working.now.merges.now) (length c.args.working.now.potentials.now) in
     let over : List ℕ → ℕ → Type 0 = λ xs k. Searched W.worth W.ranges n (allowed xs held) worth (room k) c.args.heads.now c.best_tree.new.heads c.best_tree.result in
-    let found : over less (length less) = subst (λ (xs : List ℕ). over xs (length xs)) c.seen.ensures c.best_tree.ensures in
+    let found : over less (length less) = subst (λ (xs : List ℕ). over xs (length xs)) c.seen.ensures c.best_tree.ensures.told in
     let long : length less ≡ length sets = length-set sets (length held) c.without.result in
     record {
       kept = search (rules, set-set, set-get_or);
       told = searched_same W.worth W.ranges n (allowed less held) b worth (room (length sets)) c.args.heads.now c.best_tree.new.heads c.best_tree.result
           (λ _ h d v. barring_set n sets held c.args.barred c.without.result h d c.requires c.without.ensures v) (subst (over less) long found);
+      parts = c.best_tree.ensures.parts;
     }
