@@ -6,6 +6,7 @@ ghost use Rattle.sheet.specs.Arcs.{arcs_in, no_arcs, with_arc};
 ghost use Rattle.sheet.specs.Candidates.{outranking};
 ghost use Rattle.sheet.specs.Orders;
 ghost use Rattle.sheet.specs.Calls.{Answered, arc_check, ends_check, Holds, memory_check, open_check, put_check, strike_check, too_short};
+ghost use Rattle.sheet.specs.Parts.{lengths_of};
 ghost use Rattle.weight.specs.Range.{entry_in};
 
 use queue::Ranked;
@@ -32,6 +33,15 @@ pub struct Lengths {
     pub nodes: usize,
     pub merges: usize,
     pub potentials: usize,
+}
+
+// The parts of the memory that a sheet asks for and does not write: those of a ranking and of a search.
+#[derive(Clone, Copy)]
+pub struct Spare<'a, K> {
+    pub candidates: &'a [Candidate<K>],
+    pub nodes: &'a [Node<K>],
+    pub merges: &'a [Node<K>],
+    pub potentials: &'a [Root<K>],
 }
 
 impl<K> Sheet<K> {
@@ -90,20 +100,17 @@ pub fn open<K: Opens + Copy>(
     words: usize,
     weights: &[K],
     sets: &mut [u64],
-    candidates: &[Candidate<K>],
-    nodes: &[Node<K>],
-    merges: &[Node<K>],
-    potentials: &[Root<K>],
+    spare: Spare<'_, K>,
 ) -> Result<Sheet<K>, Refusal>
-    ensures { Answered (open_check words (record { weights = length weights.now; sets = length sets.old; candidates = length candidates.now; nodes = length nodes.now; merges = length merges.now; potentials = length potentials.now })) result (sets.new ≡ sets.old) (IfOk result (λ s. s.words ≡ words) × Holds words no_arcs weights.now weights.now sets.old sets.new) }
+    ensures { Answered (open_check words (lengths_of weights.now sets.old spare.entry)) result (sets.new ≡ sets.old) (IfOk result (λ s. s.words ≡ words) × Holds words no_arcs weights.now weights.now sets.old sets.new) }
 {
     let lengths = Lengths {
         weights: weights.len(),
         sets: sets.len(),
-        candidates: candidates.len(),
-        nodes: nodes.len(),
-        merges: merges.len(),
-        potentials: potentials.len(),
+        candidates: spare.candidates.len(),
+        nodes: spare.nodes.len(),
+        merges: spare.merges.len(),
+        potentials: spare.potentials.len(),
     };
     if let Some(why) = open_check(words, lengths) {
         return Err(why);
