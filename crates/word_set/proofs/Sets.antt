@@ -1,13 +1,16 @@
 -- The bits of a number as a set of words.
-use Rattle.std.proofs.Common.{◌≡◌, ℕ, ◌+◌, ◌-◌, ◌/◌, ◌%◌, ◌^◌, ◌<◌, ◌≤◌, min, max, true, false, not, ◌&&◌, ◌||◌, eqb, ltb, leb, sym, refl, ap, ◌∙◌, ⊎_elim, arith}
+use Rattle.std.proofs.Common.{◌≡◌, ℕ, ◌+◌, ◌-◌, ◌*◌, ◌/◌, ◌%◌, ◌^◌, ◌<◌, ◌≤◌, min, max, Bool, true, false, not, ◌&&◌, ◌||◌, eqb, ltb, leb, sym, refl, ap, ◌∙◌, ⊎_elim, one-mul, arith}
 use lib.Bits.{bit_and, bit_or, bit_xor}
 use lib.Count.{count_trailing_zeros}
 use mir.Syntax.{w64}
 use Rattle.std.specs.Int.{bit_at}
-use Rattle.std.proofs.lemmas.Nat.Bits.{bit_at-zero, shr_and_one, bit_at_and, bit_at_or, bit_at_xor, bit_at-pow_same, bit_at-pow_other, bit_at_ones, bit_at_ones_above, bit_at_above, bit_at-lt, bit_at-trailing_zeros}
+use Rattle.std.proofs.lemmas.Nat.Bits.{bit_at-zero, shr_and_one, bit_at_and, bit_at_or, bit_at_xor, bit_at-pow_same, bit_at-pow_other, bit_at_ones, bit_at_ones_above, bit_at_above, bit_at-lt, bit_at-trailing_zeros, and_pow}
+use Rattle.std.proofs.lemmas.Nat.{pow_pos}
+use Rattle.std.specs.Int.Bits.{xor_add_and}
 use Rattle.std.proofs.lemmas.Bool.{cases_lt, cases_eq, eq-eqb, ne_eqb, le-leb, lt-leb}
 use Rattle.std.proofs.lemmas.Bool.Decides.{nat_tests}
 use Rattle.word_set.specs.Bits.{in_set}
+use Rattle.word_set.specs.Words.{Takes}
 
 -- a word is in a set where its bit is one
 by_bit : (s v b : ℕ) → bit_at s v ≡ b → in_set s v ≡ eqb b 1
@@ -55,8 +58,32 @@ in_set_line n v = ⊎_elim
     (cases_lt n v)
 
 -- the lowest word of a set
-pub lowest_in : (s : ℕ) → 0 < s → s < 2 ^ 64 → (count_trailing_zeros 64 s < 64) × (in_set s (count_trailing_zeros 64 s) ≡ true)
-lowest_in s some few = let t = bit_at-trailing_zeros w64 s some few in (t.0, by_bit s _ 1 t.1)
+module _ (s : ℕ) (some : 0 < s) (few : s < 2 ^ 64) where
+  pub lowest_in : (count_trailing_zeros 64 s < 64) × (in_set s (count_trailing_zeros 64 s) ≡ true)
+  lowest_in = let t = bit_at-trailing_zeros w64 s some few in (t.0, by_bit s _ 1 t.1)
+
+  -- without it
+  pub takes : Takes s (count_trailing_zeros 64 s) (bit_xor s (2 ^ count_trailing_zeros 64 s))
+  takes =
+      let w : ℕ = count_trailing_zeros 64 s in
+      let t = bit_at-trailing_zeros w64 s some few in record {
+        near = t.0;
+        inside = by_bit s w 1 t.1;
+        lowest = λ v l. by_bit s v 0 (t.2 v l);
+        others = λ v. by_bit _ v _ (bit_at_xor s (2 ^ w) v) ∙ at v (bit_at s v) (bit_at (2 ^ w) v) (bit_at-lt s v) (λ e. ap (bit_at s) e ∙ t.1) (λ e. ap (bit_at (2 ^ w)) e ∙ bit_at-pow_same w) (bit_at-pow_other w v) ∙ ap (λ (b : Bool). b && not (eqb v w)) (sym (by_bit s v (bit_at s v) refl));
+      }
+    where
+      at : (v x y : ℕ) → x < 2 → (v ≡ count_trailing_zeros 64 s → x ≡ 1) → (v ≡ count_trailing_zeros 64 s → y ≡ 1) → ((v ≡ count_trailing_zeros 64 s → ⊥) → y ≡ 0) → eqb ((x + y) % 2) 1 ≡ (eqb x 1 && not (eqb v (count_trailing_zeros 64 s)))
+      at v x y l p q r = grind (arith, nat_tests)
+
+  pub fewer : bit_xor s (2 ^ count_trailing_zeros 64 s) < s
+  fewer =
+      let w : ℕ = count_trailing_zeros 64 s in
+      let t = bit_at-trailing_zeros w64 s some few in
+      let shared : bit_and s (2 ^ w) ≡ 2 ^ w = and_pow s w ∙ ap (λ (b : ℕ). b * 2 ^ w) t.1 ∙ one-mul (2 ^ w) in
+      let sum = xor_add_and s (2 ^ w) in
+      let more = pow_pos w in
+      omega arith
 
 -- words for which a set has no room
 pub in_set_beyond : (s w : ℕ) → s < 2 ^ 64 → 64 ≤ w → in_set s w ≡ false
