@@ -1,9 +1,9 @@
 // A waiting list that hands out its greatest element first: a binary heap in slots that the caller lends.
 //
-// The list is the first `len` of the slots, and the caller keeps the length: the slots are a part of larger memory of fixed
-// size, and there is no heap to grow on. The element at k + 1 has its parent at k / 2, and in heap order no element
-// outranks its parent. Nothing is asked of the slots: on any contents every call is safe,
-// and moves elements only; where the list was in heap order, it still is, and the one handed out is a greatest one.
+// The list is the first `len` of the slots, and the caller keeps the length: both are parts of larger memory of fixed size,
+// and nothing is allocated. The element at k + 1 has its parent at k / 2, and in heap order no element outranks its
+// parent. Nothing is asked of the slots: on any contents every call is safe, and moves elements only; where the list was in
+// heap order, it still is, and the one handed out is a greatest one.
 #![tactic(auto)]
 
 ghost use Rattle.std.specs.Prelude.{◌≡◌, ℕ, ◌+◌, ◌-◌, ◌*◌, ◌<◌, ◌≤◌, Bool, false, ◌∷◌, length, take, MatchResult, IsOkAnd, slice_index_or};
@@ -38,8 +38,8 @@ pub enum Refused {
     BeyondSlots,
 }
 
-// Puts x into the list, and gives the list's new length. Here and below the slots and the length are two arguments, since
-// the caller holds both as parts of larger memory of fixed size.
+// Puts x into the list, and gives the list's new length. In each public call the slots and the length are two arguments and
+// no struct, since the caller holds both as parts of larger memory of fixed size.
 pub fn push<T: Ranked + Copy>(slots: &mut [T], len: usize, x: T) -> Result<usize, Refused>
     ensures { MatchResult result (λ n. Pushed T.above slots.old len x slots.new n) (λ e. PushRefused (length slots.old) len e × (slots.new ≡ slots.old)) }
 {
