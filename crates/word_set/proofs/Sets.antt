@@ -1,12 +1,12 @@
 -- The bits of a number as a set of words.
-use Rattle.std.proofs.Common.{◌≡◌, ℕ, ◌+◌, ◌-◌, ◌*◌, ◌/◌, ◌%◌, ◌^◌, ◌<◌, ◌≤◌, min, max, Bool, true, false, not, ◌&&◌, ◌||◌, eqb, ltb, leb, sym, refl, ap, ◌∙◌, ⊎_elim, one-mul, arith}
+use Rattle.std.proofs.Common.{◌≡◌, ℕ, ◌+◌, ◌-◌, ◌*◌, ◌/◌, ◌%◌, ◌^◌, ◌<◌, ◌≤◌, min, max, true, false, not, ◌&&◌, ◌||◌, eqb, ltb, leb, sym, refl, ap, ◌∙◌, ⊎_elim, one-mul, mul_comm, arith}
 use lib.Bits.{bit_and, bit_or, bit_xor}
 use lib.Count.{count_trailing_zeros}
 use mir.Syntax.{w64}
 use Rattle.std.specs.Int.{bit_at}
-use Rattle.std.proofs.lemmas.Nat.Bits.{bit_at-zero, shr_and_one, bit_at_and, bit_at_or, bit_at_xor, bit_at-pow_same, bit_at-pow_other, bit_at_ones, bit_at_ones_above, bit_at_above, bit_at-lt, bit_at-trailing_zeros, and_pow}
-use Rattle.std.proofs.lemmas.Nat.{pow_pos}
-use Rattle.std.specs.Int.Bits.{xor_add_and}
+use Rattle.std.proofs.lemmas.Nat.Bits.{bit_at-zero, shr_and_one, bit_at_and, bit_at_or, bit_at_xor, bit_at-pow_same, bit_at-pow_other, bit_at_ones, bit_at_ones_above, bit_at_above, bit_at-lt, bit_at-trailing_zeros, bit_at_cat_low, same_from_bits}
+use Rattle.std.proofs.Math.Nat.{add-mul, div-add-mod}
+use Rattle.std.proofs.lemmas.Nat.{pow_pos, shr_high}
 use Rattle.std.proofs.lemmas.Bool.{cases_lt, cases_eq, eq-eqb, ne_eqb, le-leb, lt-leb}
 use Rattle.std.proofs.lemmas.Bool.Decides.{nat_tests}
 use Rattle.word_set.specs.Bits.{in_set}
@@ -57,33 +57,61 @@ in_set_line n v = ⊎_elim
     (λ l. by_bit _ v 1 (bit_at_ones (n + 1) v (omega arith)) ∙ sym (le-leb v n l))
     (cases_lt n v)
 
--- the lowest word of a set
+-- ---- the lowest word of a set
+in_parts : (s v : ℕ) → s / 2 ^ v * 2 ^ v + s % 2 ^ v ≡ s
+in_parts s v = ap (λ (x : ℕ). x + s % 2 ^ v) (mul_comm (s / 2 ^ v) (2 ^ v)) ∙ div-add-mod s (2 ^ v)
+
+-- one less, where the lowest bit is at w
+module _ (s w : ℕ) (here : bit_at s w ≡ 1) (below : (i : ℕ) → i < w → bit_at s i ≡ 0) where
+  above : (v : ℕ) → w < v → bit_at (s - 1) v ≡ bit_at s v
+  above v l =
+      let q : ℕ = s / 2 ^ v in
+      let r : ℕ = s % 2 ^ v in
+      let few = pow_pos v in
+      let e : q * 2 ^ v + r ≡ s = in_parts s v in
+      let at : bit_at r w ≡ 1 = sym (bit_at_cat_low q v r w l) ∙ ap (λ (x : ℕ). bit_at x w) e ∙ here in
+      let more : 0 < r = ⊎_elim (λ z. absurd (omega (arith, ap (λ (x : ℕ). bit_at x w) z, bit_at-zero w))) (λ n. omega arith) (cases_eq r 0) in
+      let f : s - 1 ≡ q * 2 ^ v + (r - 1) = omega arith in
+      ap (λ (x : ℕ). x / 2 ^ v % 2) f ∙ ap (λ (x : ℕ). x % 2) (shr_high q v (r - 1) (omega arith))
+
+  none_below : s % 2 ^ w ≡ 0
+  none_below =
+      let few = pow_pos w in
+      same_from_bits (s % 2 ^ w) 0 (λ i. ⊎_elim
+      (λ l. sym (bit_at_cat_low (s / 2 ^ w) w (s % 2 ^ w) i l) ∙ ap (λ (x : ℕ). bit_at x i) (in_parts s w) ∙ below i l ∙ sym (bit_at-zero i))
+      (λ l. bit_at_above (s % 2 ^ w) w i (omega arith) l ∙ sym (bit_at-zero i))
+      (cases_lt i w))
+
+  gone : bit_at (s - 1) w ≡ 0
+  gone =
+      let q : ℕ = s / 2 ^ w in
+      let few = pow_pos w in
+      let odd : q ≡ q - 1 + 1 = omega (arith, here) in
+      let e : (q - 1) * 2 ^ w + 2 ^ w + s % 2 ^ w ≡ s = ap (λ (x : ℕ). (q - 1) * 2 ^ w + x + s % 2 ^ w) (sym (one-mul (2 ^ w))) ∙ ap (λ (x : ℕ). x + s % 2 ^ w) (sym (add-mul (q - 1) 1 (2 ^ w))) ∙ ap (λ (x : ℕ). x * 2 ^ w + s % 2 ^ w) (sym odd) ∙ in_parts s w in
+      let f : s - 1 ≡ (q - 1) * 2 ^ w + (2 ^ w - 1) = omega (arith, none_below) in
+      ap (λ (x : ℕ). x / 2 ^ w % 2) f ∙ ap (λ (x : ℕ). x % 2) (shr_high (q - 1) w (2 ^ w - 1) (omega arith)) ∙ omega (arith, here)
+
+  others : (v : ℕ) → in_set (bit_and s (s - 1)) v ≡ (in_set s v && not (eqb v w))
+  unfolding in_set
+  others v = by_bit _ v _ (bit_at_and s (s - 1) v) ∙ at (bit_at s v) (bit_at (s - 1) v) (bit_at-lt s v) (below v) (λ e. ap (bit_at (s - 1)) e ∙ gone) (above v)
+    where
+      at : (x y : ℕ) → x < 2 → (v < w → x ≡ 0) → (v ≡ w → y ≡ 0) → (w < v → y ≡ x) → eqb (min x y) 1 ≡ (eqb x 1 && not (eqb v w))
+      at x y l p q r = grind (arith, nat_tests)
+
 module _ (s : ℕ) (some : 0 < s) (few : s < 2 ^ 64) where
   pub lowest_in : (count_trailing_zeros 64 s < 64) × (in_set s (count_trailing_zeros 64 s) ≡ true)
   lowest_in = let t = bit_at-trailing_zeros w64 s some few in (t.0, by_bit s _ 1 t.1)
 
-  -- without it
-  pub takes : Takes s (count_trailing_zeros 64 s) (bit_xor s (2 ^ count_trailing_zeros 64 s))
+  -- s & (s - 1) is s without its lowest word
+  pub takes : Takes s (count_trailing_zeros 64 s) (bit_and s (s - 1))
   takes =
       let w : ℕ = count_trailing_zeros 64 s in
       let t = bit_at-trailing_zeros w64 s some few in record {
         near = t.0;
         inside = by_bit s w 1 t.1;
         lowest = λ v l. by_bit s v 0 (t.2 v l);
-        others = λ v. by_bit _ v _ (bit_at_xor s (2 ^ w) v) ∙ at v (bit_at s v) (bit_at (2 ^ w) v) (bit_at-lt s v) (λ e. ap (bit_at s) e ∙ t.1) (λ e. ap (bit_at (2 ^ w)) e ∙ bit_at-pow_same w) (bit_at-pow_other w v) ∙ ap (λ (b : Bool). b && not (eqb v w)) (sym (by_bit s v (bit_at s v) refl));
+        others = others s w t.1 t.2;
       }
-    where
-      at : (v x y : ℕ) → x < 2 → (v ≡ count_trailing_zeros 64 s → x ≡ 1) → (v ≡ count_trailing_zeros 64 s → y ≡ 1) → ((v ≡ count_trailing_zeros 64 s → ⊥) → y ≡ 0) → eqb ((x + y) % 2) 1 ≡ (eqb x 1 && not (eqb v (count_trailing_zeros 64 s)))
-      at v x y l p q r = grind (arith, nat_tests)
-
-  pub fewer : bit_xor s (2 ^ count_trailing_zeros 64 s) < s
-  fewer =
-      let w : ℕ = count_trailing_zeros 64 s in
-      let t = bit_at-trailing_zeros w64 s some few in
-      let shared : bit_and s (2 ^ w) ≡ 2 ^ w = and_pow s w ∙ ap (λ (b : ℕ). b * 2 ^ w) t.1 ∙ one-mul (2 ^ w) in
-      let sum = xor_add_and s (2 ^ w) in
-      let more = pow_pos w in
-      omega arith
 
 -- words for which a set has no room
 pub in_set_beyond : (s w : ℕ) → s < 2 ^ 64 → 64 ≤ w → in_set s w ≡ false

@@ -61,7 +61,7 @@ impl Iterator for Words {
             return None;
         }
         let word = self.left.trailing_zeros() as usize;
-        self.left ^= 1 << word;
+        self.left &= self.left - 1;
         Some(word)
     }
 }
