@@ -22,6 +22,7 @@ pub trait Decimal: Copy {
 impl Decimal for u64 {
     ghost text = { decimal };
 
+    #[tactic(auto, using(crate::proofs::Places::few_digits))]
     fn parts(self) -> (bool, u64) {
         (false, self)
     }
@@ -77,14 +78,15 @@ pub fn put<N: Decimal>(n: N, space: &mut [u8], at: usize) -> Result<usize, Refus
 }
 
 // How many digits the number has.
+#[tactic(auto, using(crate::proofs::Places::length_one, crate::proofs::Places::length_more, crate::proofs::Places::few_digits))]
 fn digit_count(n: u64) -> usize
-    ensures value { result ≡ length (decimal n) }
-    ensures bound { result ≤ 20 }
+    ensures { result ≡ length (decimal n) }
 {
     if n < 10 { 1 } else { digit_count(n / 10) + 1 }
 }
 
 // Writes the digits of the number from `at` on, where there is room for them.
+#[tactic(auto, using(crate::proofs::Places::length_one, crate::proofs::Places::length_more, crate::proofs::Places::written_one, crate::proofs::Places::written_byte, std::proofs::lemmas::Fmt::decimal_digit, std::proofs::lemmas::Fmt::decimal_step))]
 fn write_digits(n: u64, space: &mut [u8], at: usize) -> usize
     requires { at + length (decimal n) ≤ length space.old }
     ensures end { result ≡ at + length (decimal n) }
