@@ -12,6 +12,10 @@ Mark K = Layer MarkSpan K
 abbrev pub Root : Type 0 → Type 0
 Root K = Layer RootSpan K
 
+-- the weight with this place in front
+abbrev pub layer : {S K : Type 0} → ℤ → K → Layer S K
+layer place rest = record { place = place; rest = rest; of = record {} }
+
 abbrev pub layer_worth : {S K : Type 0} → (K → Worth) → Layer S K → Worth
 layer_worth f x = x.place ∷ f x.rest
 

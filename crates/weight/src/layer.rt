@@ -101,7 +101,7 @@ impl<S: Span, K: Kind> Kind for Layer<S, K> {
 
     fn compare(&self, other: &Layer<S, K>) -> Ordering {
         let front = self.place.cmp(&other.place);
-        front.then_with(|| self.rest.compare(&other.rest))
+        front.then(self.rest.compare(&other.rest))
     }
 
     fn entry(&self) -> bool {
