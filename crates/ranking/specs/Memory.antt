@@ -11,7 +11,7 @@ use Rattle.sheet.specs.Arcs.{Arcs, arcs_in}
 use Rattle.std.specs.List.{slice_get}
 use Rattle.weight.specs.Range.{Range, entry_in}
 use Rattle.weight.specs.Worth.{Worth}
-use Rattle.weight.specs.declared.root.Root.{Root}
+use Rattle.weight.specs.Layers.{Root}
 
 -- the parts of the memory; the last three are working space
 pub record Memory (K : Type 0) : Type 0 where
