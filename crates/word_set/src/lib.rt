@@ -1,5 +1,5 @@
 // Sets of words as the bits of a number: bit w is up where word w is in the set. Bit 0 is the root's.
-// A set has room for the words up to 63.
+// A set has room for the words up to 63, and is a plain u64, without heap, as records of fixed size hold it.
 #![tactic(auto)]
 
 ghost use Rattle.std.specs.Prelude.{◌≡◌, ℕ, ◌<◌, not, ◌&&◌, ◌||◌, ◌==◌, nat_lt};
@@ -14,7 +14,8 @@ pub fn holds(set: u64, word: usize) -> bool
 
 // The set of one word; no word above 63 is in a set.
 pub fn only(word: usize) -> u64
-    ensures { (v : ℕ) → in_set result v ≡ (v == word && nat_lt word 64) }
+    ensures words { (v : ℕ) → in_set result v ≡ (v == word && nat_lt word 64) }
+    ensures small { word < 64 → (v : ℕ) → in_set result v ≡ (v == word) }
 {
     if word < 64 { 1 << word } else { 0 }
 }

@@ -9,4 +9,4 @@ returns g c =
     let d = c.args.dependent in
     let weights = c.args.weights.now in
     let sets = c.args.sets.now in
-    clear_holds n h d c.requires.few weights sets (passed n (length weights) (length sets) h d c.requires.room) c.without.result c.only.result c.only.ensures c.without.ensures
+    clear_holds n h d c.requires.few weights sets (passed n (length weights) (length sets) h d c.requires.room) c.without.result c.only.result c.only.ensures.words c.without.ensures

@@ -22,4 +22,4 @@ returns g c =
     let sets = c.args.sets.now in
     let s = c.either.result in
     subst (λ l. Holds n (with_arc h d (Some c.args.weight) (arcs_in n weights sets)) weights l sets (set sets (d - 1) s)) (sym c.write_weight.ensures)
-    (set_holds n h d c.requires.few weights sets (passed n (length weights) (length sets) h d c.requires.room) s c.only.result c.args.weight c.only.ensures c.either.ensures)
+    (set_holds n h d c.requires.few weights sets (passed n (length weights) (length sets) h d c.requires.room) s c.only.result c.args.weight c.only.ensures.words c.either.ensures)
