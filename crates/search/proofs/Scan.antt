@@ -1,5 +1,7 @@
 -- The scan for the best arc
 use Rattle.std.proofs.Common.{◌≡◌, ℕ, ◌+◌, ◌-◌, ◌*◌, ◌<◌, ◌≤◌, Bool, true, false, cond, not, ◌&&◌, T, eqb, leb, ◌⊎◌, List, [], map, length, get_or, Some, None, Option, sym, refl, ap, ◌∙◌, subst, inl, inr, arith}
+use Rattle.std.specs.Bool.{then_some}
+use Rattle.std.specs.Option.{option_or}
 use Rattle.std.proofs.lemmas.List.{get_or-map}
 use Rattle.std.proofs.lemmas.Bool.{cases_lt, cases_Bool, cases_eq, both_ways, and_from, and_parts, not-true, eq-eqb, ne_eqb, leb-true, le-leb}
 use Rattle.std.proofs.lemmas.Nat.{mul-add-lt}
@@ -87,7 +89,7 @@ module _ (worth : ℕ → ℕ → Worth) (to heads root words : ℕ) (is : (h : 
       by true b e = ap not e
       by false b e = refl
 
-  pub head_word : (b : ℕ) → BestHead (in_set words) (λ h. worth h to) (Some b) → BestHead (in_set heads) (λ h. rooted worth h to) (Some b)
+  head_word : (b : ℕ) → BestHead (in_set words) (λ h. worth h to) (Some b) → BestHead (in_set heads) (λ h. rooted worth h to) (Some b)
   head_word b best = (p.0, λ h t. front_word worth to b h nb (by h t (cases_eq h 0)))
     where
       p : (in_set heads b ≡ true) × (not (in_set root b) ≡ true)
@@ -100,19 +102,28 @@ module _ (worth : ℕ → ℕ → Worth) (to heads root words : ℕ) (is : (h : 
       by h t (inl e) = inl e
       by h t (inr ne) = inr (ne, best.1 h (word_in h ne ∙ t))
 
-  pub head_root : in_set heads 0 ≡ true → BestHead (in_set words) (λ h. worth h to) None → BestHead (in_set heads) (λ h. rooted worth h to) (Some 0)
+  head_root : in_set heads 0 ≡ true → BestHead (in_set words) (λ h. worth h to) None → BestHead (in_set heads) (λ h. rooted worth h to) (Some 0)
   head_root zero_in none = (zero_in, λ h t. by h t (cases_eq h 0))
     where
       by : (h : ℕ) → in_set heads h ≡ true → (h ≡ 0) ⊎ (h ≡ 0 → ⊥) → AtMost (rooted worth h to) (rooted worth 0 to)
       by h t (inl e) = rw e (at_most_refl (rooted worth 0 to))
       by h t (inr ne) = absurd (both_ways (in_set words h) (none h) (word_in h ne ∙ t))
 
-  pub head_none : in_set heads 0 ≡ false → BestHead (in_set words) (λ h. worth h to) None → BestHead (in_set heads) (λ h. rooted worth h to) None
+  head_none : in_set heads 0 ≡ false → BestHead (in_set words) (λ h. worth h to) None → BestHead (in_set heads) (λ h. rooted worth h to) None
   head_none zero-out none = λ h. by h (cases_eq h 0)
     where
       by : (h : ℕ) → (h ≡ 0) ⊎ (h ≡ 0 → ⊥) → in_set heads h ≡ false
       by h (inl e) = rw e zero-out
       by h (inr ne) = sym (word_in h ne) ∙ none h
+
+  -- the best of the words, or else the root where it is one of the heads
+  pub head_either : (best : Option ℕ) → BestHead (in_set words) (λ h. worth h to) best → BestHead (in_set heads) (λ h. rooted worth h to) (option_or best (then_some (in_set heads 0) 0))
+  head_either (Some b) best = head_word b best
+  head_either None best = by (in_set heads 0) refl
+    where
+      by : (t : Bool) → in_set heads 0 ≡ t → BestHead (in_set heads) (λ h. rooted worth h to) (then_some t 0)
+      by true e = head_root e best
+      by false e = head_none e best
 
 -- ---- the best of some arcs
 module _ {K : Type 0} (f : K → Worth) (w : ℕ → ℕ → Worth) where
