@@ -15,19 +15,18 @@ use refusal::Refusal;
 use sheet::{Sheet, Spare, open};
 
 // The number of words of a file whose kind was told.
-fn words_told(file: &[u8], told: FileKind, kind: FileKind, width: usize) -> Result<usize, FileFault>
-    requires long { 5 ≤ length file.now }
-    requires narrow { width ≤ 5 }
-    ensures { result ≡ words_told kind width file.now told }
+fn words_told<K: Recorded>(file: &[u8], told: FileKind) -> Result<usize, FileFault>
+    requires { 5 ≤ length file.now }
+    ensures { result ≡ words_told K.format.kind K.format.width file.now told }
 {
-    if told != kind {
+    if told != K::file_kind() {
         return Err(FileFault::Kind);
     }
     let words = usize::from(file[4]);
     if words == 0 || words > 40 {
         return Err(FileFault::Sheet(Refusal::WordCount));
     }
-    if (file.len() - 5) % (width + 2) != 0 {
+    if (file.len() - 5) % (K::bytes() + 2) != 0 {
         return Err(FileFault::Length);
     }
     Ok(words)
@@ -39,40 +38,36 @@ fn frame_words<K: Recorded>(file: &[u8]) -> Result<usize, FileFault>
     ensures long { OnOk result (5 ≤ length file.now) }
 {
     let told = kind_of(file)?;
-    words_told(file, told, K::file_kind(), K::bytes())
+    words_told::<K>(file, told)
 }
 
 // How many records a file has.
-fn record_count(file: &[u8], width: usize) -> usize
-    requires long { 5 ≤ length file.now }
-    requires narrow { width ≤ 5 }
-    ensures { result ≡ record_count width file.now }
+fn record_count<K: Recorded>(file: &[u8]) -> usize
+    requires { 5 ≤ length file.now }
+    ensures { result ≡ record_count K.format.width file.now }
 {
-    (file.len() - 5) / (width + 2)
+    (file.len() - 5) / (K::bytes() + 2)
 }
 
 // Puts all records of a file on a sheet that was just opened. A record that is refused leaves every arc absent.
 fn fill<K: Recorded + Copy>(
     sheet: &Sheet<K>,
-    words: usize,
     file: &[u8],
     weights: &mut [K],
     sets: &mut [u64],
     spare: Spare<'_, K>,
 ) -> Result<(), RecordFault>
-    requires line { sheet.now.words ≡ words }
-    requires room { open_check words (lengths_of weights.old sets.old spare) ≡ None }
+    requires room { open_check sheet.now.words (lengths_of weights.old sets.old spare) ≡ None }
     requires long { 5 ≤ length file.now }
-    ensures { Told (records_check K.format words file.now 0 (record_count K.format.width file.now)) result (Holds words no_arcs weights.old weights.new sets.old sets.new) (Holds words (put_records K.format file.now 0 (record_count K.format.width file.now) (arcs_in words weights.old sets.old)) weights.old weights.new sets.old sets.new) }
+    ensures { Told (records_check K.format sheet.now.words file.now 0 (record_count K.format.width file.now)) result (Holds sheet.now.words no_arcs weights.old weights.new sets.old sets.new) (Holds sheet.now.words (put_records K.format file.now 0 (record_count K.format.width file.now) (arcs_in sheet.now.words weights.old sets.old)) weights.old weights.new sets.old sets.new) }
 {
-    let count = record_count(file, K::bytes());
-    match put_records(sheet, weights, sets, file, count) {
-        Ok(()) => Ok(()),
-        Err(fault) => {
-            let _ = open(words, weights, sets, spare);
-            Err(fault)
-        }
+    let count = record_count::<K>(file);
+    let told = put_records(sheet, weights, sets, file, count);
+    if told.is_err() {
+        // the same opening as before, which passes again
+        let _ = open(sheet.words(), weights, sets, spare);
     }
+    told
 }
 
 // Opens a sheet and puts the records of a file of the kind on it.
@@ -86,11 +81,12 @@ pub fn read<K: Recorded + Copy>(
 {
     let words = frame_words::<K>(file)?;
     let sheet = open(words, weights, sets, spare)?;
-    fill(&sheet, words, file, weights, sets, spare)?;
+    fill(&sheet, file, weights, sets, spare)?;
     Ok(sheet)
 }
 
 // After the puts of an accepted file an arc stands with the weight of the last record that names it.
+#[tactic(auto, using(crate::proofs::Lasts::last_stands))]
 pub fn last_stands()
     ensures scores { LastStands score_format }
     ensures costs { LastStands cost_format }

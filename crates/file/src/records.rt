@@ -1,6 +1,6 @@
 // The records of a file, put on the sheet one by one.
 ghost use Rattle.std.specs.Prelude.{◌≡◌, ℕ, ◌+◌, ◌*◌, ◌^◌, ◌<◌, ◌≤◌, length, None};
-ghost use Rattle.file.specs.Records.{field_place, KeptBeyond, put_record, put_records, record_check, record_place, recorded, records_check, Told};
+ghost use Rattle.file.specs.Records.{field_place, KeptBeyond, put_record, put_records, record_check, record_place, records_check, Told};
 ghost use Rattle.sheet.specs.Arcs.{arcs_in};
 ghost use Rattle.sheet.specs.Calls.{Holds, memory_check};
 
@@ -19,28 +19,6 @@ fn field_place(at: usize, refusal: Refusal) -> usize
         Refusal::SelfLoop => at + 1,
         Refusal::NoEntry => at + 2,
         _ => at,
-    }
-}
-
-// A put's refusal becomes the fault of the record.
-trait InRecord {
-    fn in_record(self, number: usize, at: usize) -> Result<(), RecordFault>
-        requires { at + 2 < 2 ^ 64 };
-}
-
-impl InRecord for Result<(), Refusal> {
-    fn in_record(self, number: usize, at: usize) -> Result<(), RecordFault>
-        requires { at + 2 < 2 ^ 64 }
-        ensures { result ≡ recorded number at self }
-    {
-        match self {
-            Ok(()) => Ok(()),
-            Err(refusal) => Err(RecordFault {
-                record: number,
-                place: field_place(at, refusal),
-                refusal,
-            }),
-        }
     }
 }
 
@@ -66,7 +44,11 @@ fn put_record<K: Recorded + Copy>(
         usize::from(file[at + 1]),
         weight,
     )
-    .in_record(number, at)
+    .map_err(|refusal| RecordFault {
+        record: number,
+        place: field_place(at, refusal),
+        refusal,
+    })
 }
 
 // Puts the first records on the sheet, so many, up to one that is refused.
