@@ -7,6 +7,7 @@ use Rattle.queue.specs.Heap.{Ordered}
 use Rattle.ranking.specs.Trees.{TreeOf, tree_worth}
 use Rattle.ranking.specs.declared.state.Ranking.{Ranking}
 use Rattle.search.specs.declared.family.Node.{Node}
+use Rattle.search.specs.declared.working.Working.{Working}
 use Rattle.sheet.specs.Arcs.{Arcs, arcs_in}
 use Rattle.std.specs.List.{slice_get}
 use Rattle.weight.specs.Range.{Range, entry_in}
@@ -21,6 +22,10 @@ pub record Memory (K : Type 0) : Type 0 where
   pub nodes : List (Node K)
   pub merges : List (Node K)
   pub potentials : List (Root K)
+
+-- the memory that a take works in
+abbrev pub memory_of : {K : Type 0} → List K → List ℕ → List (Candidate K) → Working K → Memory K
+memory_of weights sets candidates working = record { weights = weights; sets = sets; candidates = candidates; nodes = working.nodes.now; merges = working.merges.now; potentials = working.potentials.now }
 
 -- the memory of n words holds these arcs, and their weights are entries
 pub record HoldsArcs {K : Type 0} (worth : K → Worth) (ranges : List Range) (n : ℕ) (weights : List K) (sets : List ℕ) (arcs : Arcs K) : Type 0 where
