@@ -1,10 +1,10 @@
 -- What a take answers and leaves in the memory
-use Rattle.std.specs.Prelude.{◌≡◌, ℕ, ◌+◌, ◌-◌, ◌≤◌, false, cond, List, ◌∷◌, length, take, drop, Some, None, Ok, Err, Option, Result, ◌==◌, nat_lt}
+use Rattle.std.specs.Prelude.{◌≡◌, ℕ, ◌+◌, ◌-◌, ◌≤◌, false, List, ◌∷◌, length, take, drop, Some, None, Ok, Err, Option, Result, ◌==◌, nat_lt}
 use Rattle.ranking.specs.Memory.{Memory, StandsFor}
-use Rattle.ranking.specs.Takes.{Tells}
+use Rattle.ranking.specs.Takes.{Tells, why_none}
 use Rattle.ranking.specs.declared.state.Ranking.{Ranking}
 use Rattle.ranking.specs.declared.state.Taken.{Taken}
-use Rattle.refusal.specs.declared.Refusal.TheVariants.{ShortMemory, ShortSpace, Fifty, NoTree, NoMore}
+use Rattle.refusal.specs.declared.Refusal.TheVariants.{ShortMemory, ShortSpace, Fifty}
 use Rattle.refusal.specs.declared.Refusal.{Refusal}
 use Rattle.sheet.specs.Arcs.{Arcs}
 use Rattle.sheet.specs.Calls.{or_else, refuse_if, too_short}
@@ -18,6 +18,11 @@ lengths_of m = record { weights = length m.weights; sets = length m.sets; candid
 -- which check fails before a tree is sought: the memory, the space, the fifty
 abbrev pub take_check : ℕ → Lengths → ℕ → ℕ → Option Refusal
 take_check n l space taken = or_else (refuse_if (too_short n l) ShortMemory) (or_else (refuse_if (nat_lt space n) ShortSpace) (refuse_if (taken == 50) Fifty))
+
+-- a call passes its check unless it is refused
+abbrev pub passes_unless : Option Refusal → Result (Unit {0}) Refusal
+passes_unless None = Ok tt
+passes_unless (Some e) = Err e
 
 -- the trees taken after a take that wrote these heads
 abbrev pub after_take : {K : Type 0} → List ℕ → Result (Taken K) Refusal → List (List ℕ) → List (List ℕ)
@@ -39,7 +44,7 @@ pub record Took {K : Type 0} (worth : K → Worth) (ranges : List Range) (rankin
   -- any other refusal is "no tree", or after the first tree "no more", and leaves all but the working space
   pub none_left :
       (e : Refusal) → take_check ranking.sheet.words (lengths_of memory) (length space) ranking.taken ≡ None → r ≡ Err e →
-      (e ≡ cond (ranking.taken == 0) NoTree NoMore) × (ranking' ≡ ranking) × (memory'.candidates ≡ memory.candidates) × (space' ≡ space)
+      (e ≡ why_none ranking.taken) × (ranking' ≡ ranking) × (memory'.candidates ≡ memory.candidates) × (space' ≡ space)
   -- on every way out the arcs are as before, and so is all that lies beyond the heads and beyond the listed lengths
   pub words : ranking'.sheet.words ≡ ranking.sheet.words
   pub weights : memory'.weights ≡ memory.weights

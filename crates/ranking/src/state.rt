@@ -13,7 +13,7 @@ pub struct Ranking<K> {
 }
 
 // What a take returns beside the heads: the weight of the tree, and how many trees the ranking has now handed out.
-#[derive(Clone, Copy)]
+#[derive(Clone, Copy, PartialEq, Eq, Debug)]
 pub struct Taken<K> {
     pub weight: K,
     pub count: usize,
