@@ -13,5 +13,5 @@ bounds-weights-at g c = place_room _ _ _ c.args.sheet.now.line.1 c.args.weights.
 pub returns : goal.returns
 returns g c =
     let none = all_pass _ _ c.in_ok-ends_check.ensures in
-    let holds = set_holds _ _ _ c.args.sheet.now.line.1 c.args.weights.now c.args.sets.now (passed _ _ _ _ _ _ c.in_ok-ends_check.ensures) c.either.result c.only.result c.args.weight c.only.ensures c.either.ensures in
+    let holds = set_holds _ _ _ c.args.sheet.now.line.1 c.args.weights.now c.args.sets.now (passed _ _ _ _ _ _ c.in_ok-ends_check.ensures) c.either.result c.only.result c.args.weight c.only.ensures.words c.either.ensures in
     search rules
