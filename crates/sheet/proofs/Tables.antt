@@ -9,7 +9,7 @@ use Rattle.sheet.specs.declared.Lengths.{Lengths}
 use Rattle.std.proofs.lemmas.Nat.{mul-add-lt, div-mul-add}
 use Rattle.std.proofs.lemmas.List.{get_or_append_left, get_or-replicate, get_or-set_same, get_or-set_other, drop_at, drop-set-lt, length-take-le}
 use Rattle.std.proofs.Math.Bool.{or-false, or-true, and-true, and-false}
-use Rattle.std.proofs.lemmas.Bool.{cases_eq, cases_Bool, eq-eqb, ne_eqb, le-leb, leb-true, lt-ltb, le-ltb, ltb-false, eqb-false, and_parts, and_from, and_right, or_parts}
+use Rattle.std.proofs.lemmas.Bool.{cases_eq, cases_Bool, eq-eqb, ne_eqb, le-leb, leb-true, le-ltb, ltb-false, eqb-false, and_parts, and_from, and_right, or_parts}
 use Rattle.std.specs.List.{slice_get}
 use Rattle.word_set.proofs.Sets.{in_set_empty}
 use Rattle.word_set.specs.Bits.{in_set}
@@ -121,11 +121,11 @@ module _ {K : Type 0} (n h d : ℕ) (few : n ≤ 40) (weights : List K) (sets : 
   set_low : d - 1 < n
   set_low = omega (arith, p.ends.some, p.ends.dependent)
 
-  near : ltb h 64 ≡ true
-  near = lt-ltb h 64 (omega (arith, p.ends.head))
+  near : h < 64
+  near = omega (arith, p.ends.head)
 
   pub set_holds :
-      (k : K) → ((v : ℕ) → in_set only v ≡ (eqb v h && ltb h 64)) → ((v : ℕ) → in_set s v ≡ (in_set (get_or sets (d - 1) 0) v || in_set only v)) →
+      (k : K) → (h < 64 → (v : ℕ) → in_set only v ≡ eqb v h) → ((v : ℕ) → in_set s v ≡ (in_set (get_or sets (d - 1) 0) v || in_set only v)) →
       Holds n (with_arc h d (Some k) (arcs_in n weights sets)) weights (set weights (place n h d) k) sets (set sets (d - 1) s)
   set_holds k one union =
       record {
@@ -135,13 +135,13 @@ module _ {K : Type 0} (n h d : ℕ) (few : n ≤ 40) (weights : List K) (sets : 
       }
     where
       kept : (v : ℕ) → (v ≡ h → ⊥) → in_set s v ≡ in_set (get_or sets (d - 1) 0) v
-      kept v ne = rw (union v, one v, ne_eqb v h ne) (or-false (in_set (get_or sets (d - 1) 0) v))
+      kept v ne = rw (union v, one near v, ne_eqb v h ne) (or-false (in_set (get_or sets (d - 1) 0) v))
 
       up : in_set s h ≡ true
-      up = rw (union h, one h, eq-eqb h h refl, near) (or-true (in_set (get_or sets (d - 1) 0) h))
+      up = rw (union h, one near h, eq-eqb h h refl) (or-true (in_set (get_or sets (d - 1) 0) h))
 
   pub clear_holds :
-      ((v : ℕ) → in_set only v ≡ (eqb v h && ltb h 64)) → ((v : ℕ) → in_set s v ≡ (in_set (get_or sets (d - 1) 0) v && not (in_set only v))) →
+      (h < 64 → (v : ℕ) → in_set only v ≡ eqb v h) → ((v : ℕ) → in_set s v ≡ (in_set (get_or sets (d - 1) 0) v && not (in_set only v))) →
       Holds n (with_arc h d None (arcs_in n weights sets)) weights weights sets (set sets (d - 1) s)
   clear_holds one less =
       record {
@@ -151,10 +151,10 @@ module _ {K : Type 0} (n h d : ℕ) (few : n ≤ 40) (weights : List K) (sets : 
       }
     where
       kept : (v : ℕ) → (v ≡ h → ⊥) → in_set s v ≡ in_set (get_or sets (d - 1) 0) v
-      kept v ne = rw (less v, one v, ne_eqb v h ne) (and-true (in_set (get_or sets (d - 1) 0) v))
+      kept v ne = rw (less v, one near v, ne_eqb v h ne) (and-true (in_set (get_or sets (d - 1) 0) v))
 
       down : in_set s h ≡ false
-      down = rw (less h, one h, eq-eqb h h refl, near) (and-false (in_set (get_or sets (d - 1) 0) h))
+      down = rw (less h, one near h, eq-eqb h h refl) (and-false (in_set (get_or sets (d - 1) 0) h))
 
 -- a fresh sheet: no bit is up
 pub fresh : {K : Type 0} (n : ℕ) (weights : List K) (sets zeros : List ℕ) → n ≤ length sets → zeros ≡ replicate (length (take n sets)) 0 → Holds n no_arcs weights weights sets (zeros ++ drop n sets)
