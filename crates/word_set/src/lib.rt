@@ -3,7 +3,9 @@
 #![tactic(auto)]
 
 ghost use Rattle.std.specs.Prelude.{◌≡◌, ℕ, ◌<◌, not, ◌&&◌, ◌||◌, ◌==◌, nat_lt};
+ghost use Rattle.std.specs.Iterator.{at_most};
 ghost use Rattle.word_set.specs.Bits.{in_set};
+ghost use Rattle.word_set.specs.Words.{NextWord};
 
 // Whether the word is in the set.
 pub fn holds(set: u64, word: usize) -> bool
@@ -39,4 +41,34 @@ pub fn without(a: u64, b: u64) -> u64
     ensures { (v : ℕ) → in_set result v ≡ (in_set a v && not (in_set b v)) }
 {
     a ^ (a & b)
+}
+
+// The words of a set, lowest first: `left` are those that are still to come.
+#[derive(Drop)]
+pub struct Words {
+    pub left: u64,
+}
+
+impl Iterator for Words {
+    type Item = usize;
+
+    ghost next_gives = { λ s r t. NextWord s.left r t.left };
+
+    ghost remaining = { λ s. at_most s.left };
+
+    fn next(&mut self) -> Option<usize> {
+        if self.left == 0 {
+            return None;
+        }
+        let word = self.left.trailing_zeros() as usize;
+        self.left &= self.left - 1;
+        Some(word)
+    }
+}
+
+// The words of the set, lowest first.
+pub fn words_of(set: u64) -> Words
+    ensures { result.left ≡ set }
+{
+    Words { left: set }
 }
