@@ -50,12 +50,12 @@ module _ (w : ℕ → Worth) where
   abbrev pub Seen : ℕ → ℕ → Option ℕ → Type 0
   Seen heads left best = ((h : ℕ) → in_set left h ≡ true → in_set heads h ≡ true) × BestHead (λ h. in_set heads h && not (in_set left h)) w best
 
-  pub seen_more : (heads left bit left' : ℕ) (best : Option ℕ) (from : ℕ) → ((h : ℕ) → in_set left' h ≡ (in_set left h && not (in_set bit h))) → ((h : ℕ) → in_set bit h ≡ eqb h from) → in_set left from ≡ true → Seen heads left best → Seen heads left' (Some (better_head w best from))
-  seen_more heads left bit left' best from is one here s = (
-    λ h t. s.0 h (and_parts (in_set left h) (not (in_set bit h)) (sym (is h) ∙ t)).0,
+  pub seen_more : (heads left left' : ℕ) (best : Option ℕ) (from : ℕ) → ((h : ℕ) → in_set left' h ≡ (in_set left h && not (eqb h from))) → in_set left from ≡ true → Seen heads left best → Seen heads left' (Some (better_head w best from))
+  seen_more heads left left' best from is here s = (
+    λ h t. s.0 h (and_parts (in_set left h) (not (eqb h from)) (sym (is h) ∙ t)).0,
     head_more (λ h. in_set heads h && not (in_set left h)) (λ h. in_set heads h && not (in_set left' h)) best from
-        (and_from (in_set heads from) (not (in_set left' from)) (s.0 from here) (ap not (is from ∙ gone (in_set left from) (in_set bit from) (one from ∙ eq-eqb from from refl))))
-        (λ h t. let p = and_parts (in_set heads h) (not (in_set left h)) t in and_from (in_set heads h) (not (in_set left' h)) p.0 (ap not (is h ∙ ap (λ (b : Bool). b && not (in_set bit h)) (not-true (in_set left h) p.1))))
+        (and_from (in_set heads from) (not (in_set left' from)) (s.0 from here) (ap not (is from ∙ gone (in_set left from) (eqb from from) (eq-eqb from from refl))))
+        (λ h t. let p = and_parts (in_set heads h) (not (in_set left h)) t in and_from (in_set heads h) (not (in_set left' h)) p.0 (ap not (is h ∙ ap (λ (b : Bool). b && not (eqb h from)) (not-true (in_set left h) p.1))))
         (λ h t. let p = and_parts (in_set heads h) (not (in_set left' h)) t in split h p.0 (not-true (in_set left' h) p.1) (cases_Bool (in_set left h)) (cases_eq h from)) s.1,
   )
     where
@@ -66,7 +66,7 @@ module _ (w : ℕ → Worth) where
       split : (h : ℕ) → in_set heads h ≡ true → in_set left' h ≡ false → (in_set left h ≡ true) ⊎ (in_set left h ≡ false) → (h ≡ from) ⊎ (h ≡ from → ⊥) → ((in_set heads h && not (in_set left h)) ≡ true) ⊎ (h ≡ from)
       split h t f c (inl e) = inr e
       split h t f (inr l) (inr ne) = inl (and_from (in_set heads h) (not (in_set left h)) t (ap not l))
-      split h t f (inl l) (inr ne) = absurd (both_ways (in_set left' h) f (is h ∙ and_from (in_set left h) (not (in_set bit h)) l (ap not (one h ∙ ne_eqb h from ne))))
+      split h t f (inl l) (inr ne) = absurd (both_ways (in_set left' h) f (is h ∙ and_from (in_set left h) (not (eqb h from)) l (ap not (ne_eqb h from ne))))
 
   pub seen_all : (heads left : ℕ) (best : Option ℕ) → ((h : ℕ) → in_set left h ≡ false) → Seen heads left best → BestHead (in_set heads) w best
   seen_all heads left None none s = λ h. sym (whole (in_set heads h) (in_set left h) (none h)) ∙ s.1 h

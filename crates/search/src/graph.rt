@@ -1,9 +1,9 @@
 // The arcs that a search looks at: the line's words, the arcs that stand, the heads that are held, and the arcs' weights.
 ghost use Rattle.std.specs.Prelude.{◌+◌, ◌*◌, ◌≤◌, length};
 
-use crate::bits::{first, line};
+use crate::bits::line;
 use weight::{Kind, Root};
-use word_set::{both, holds, only, without};
+use word_set::{both, holds, only, without, words_of};
 
 // The parts that every step of a search reads, lent together.
 #[derive(Drop)]
@@ -87,10 +87,7 @@ impl<K: Kind + Copy> Graph<'_, K> {
         ensures { BestHead (in_set heads) (λ h. weight_in K.Kind.worth self.now h to) result }
     {
         let mut best: Option<usize> = None;
-        let mut left = heads;
-        'heads: while left > 0 {
-            let from = first(left);
-            left = without(left, only(from));
+        for from in words_of(heads) {
             best = Some(self.better_head(to, best, from));
         }
         best
@@ -112,13 +109,10 @@ impl<K: Kind + Copy> Graph<'_, K> {
         requires heads { InLine self.now.words heads }
         ensures { EntriesInto (in_set heads) (λ h. entry_in K.Kind.ranges (weight_in K.Kind.worth self.now h to)) result }
     {
-        let mut left = heads;
-        'heads: while left > 0 {
-            let from = first(left);
+        for from in words_of(heads) {
             if !self.weight(from, to).entry() {
                 return false;
             }
-            left = without(left, only(from));
         }
         true
     }

@@ -1,25 +1,12 @@
 // The sets are opened, from the newest to the oldest, and give each word its head.
 ghost use Rattle.std.specs.Prelude.{◌≡◌, ℕ, ◌<◌, ◌≤◌, length};
-ghost use Rattle.search.specs.Opening.{Meets, Lined, Opens};
+ghost use Rattle.search.specs.Opening.{Lined, Opens};
 ghost use Rattle.search.specs.State.{group_at, base_in, sets_in};
 ghost use Rattle.tree.specs.Chains.{Word, head_of};
 
 use crate::family::{Family, Node};
 use weight::Kind;
-use word_set::{either, holds, only};
-
-// Whether two sets have a word in common.
-fn meets(n: usize, a: u64, b: u64) -> bool
-    requires { n ≤ 40 }
-    ensures { Meets n a b result }
-{
-    for word in 1..n + 1 {
-        if holds(a, word) && holds(b, word) {
-            return true;
-        }
-    }
-    false
-}
+use word_set::{both, either, only};
 
 // Writes the head of a word.
 fn set_head(heads: &mut [u8], word: usize, from: usize)
@@ -53,7 +40,7 @@ pub(crate) fn open<K: Kind + Copy>(family: &Family<'_, K>, heads: &mut [u8])
     first_heads(family.words, family.nodes, heads);
     let mut done = 0;
     for node in family.made.iter().rev() {
-        if !meets(family.words, node.members, done) {
+        if both(node.members, done) == 0 {
             set_head(heads, node.arc.to, node.arc.from);
             done = either(done, only(node.arc.to));
         }

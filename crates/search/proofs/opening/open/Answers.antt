@@ -1,4 +1,4 @@
-use Rattle.std.proofs.Common.{◌≡◌, ◌<◌, ℕ, [], List, length, map, reverse, sym, ap, subst, arith}
+use Rattle.std.proofs.Common.{◌≡◌, ◌<◌, ℕ, [], List, length, map, reverse, sym, ap, subst, arith, rules}
 use Rattle.std.proofs.lemmas.List.{nil_from_length}
 use Rattle.std.specs.Iterator.Adapters.{rev_source}
 use Rattle.std.specs.Slice.Iter.{iter_rest}
@@ -28,8 +28,8 @@ set_head-requires g c =
     let at = left.lined 0 (view f x) (omega arith) in
     record { word = (at.0.0, omega (arith, at.0.1, c.requires.room, c.loop-node.auto.heads, c.first_heads.auto.heads)); from = omega (arith, at.1, family.few) }
 
-pub loop-node-preserved-then-not-meets : goal.loop-node-preserved-then-not-meets
-loop-node-preserved-then-not-meets g c =
+pub loop-node-preserved-then-both-eq0 : goal.loop-node-preserved-then-both-eq0
+loop-node-preserved-then-both-eq0 g c =
     let f = g.K.Kind.worth in
     let family = c.args.family.now in
     let x = c.in-Some.node.now in
@@ -37,7 +37,7 @@ loop-node-preserved-then-not-meets g c =
     let left = subst (λ (ms : List Group). Left g.K.Kind.places family.words (base_in f family) (sets_in f family) ms c.loop-node.done (head_of c.loop-node.heads)) e c.loop-node.invariant in
     let at = left.lined 0 (view f x) (omega arith) in
     let small : x.arc.to < 64 = omega (arith, at.0.1, family.few) in
-    left_own g.K.Kind.places family.words (base_in f family) (sets_in f family) (view f x) _ c.loop-node.done c.either-done.result c.only.result (head_of c.loop-node.heads) (head_of c.set_head.new.heads) c.if-not-meets.ensures c.either-done.ensures (c.only.ensures.small small) c.set_head.ensures.here c.set_head.ensures.there left
+    left_own g.K.Kind.places family.words (base_in f family) (sets_in f family) (view f x) _ c.loop-node.done c.either-done.result c.only.result c.both.result (head_of c.loop-node.heads) (head_of c.set_head.new.heads) c.if-both-eq0.true c.both.ensures c.either-done.ensures (c.only.ensures.small small) c.set_head.ensures.here c.set_head.ensures.there left
 
 pub loop-node-preserved : goal.loop-node-preserved
 loop-node-preserved g c =
@@ -46,7 +46,7 @@ loop-node-preserved g c =
     let x = c.in-Some.node.now in
     let e = newest f (iter_rest (rev_source c.loop-node.node-iterator)) (iter_rest (rev_source c.next.new.self)) x c.in-Some.ensures.steps in
     let left = subst (λ (ms : List Group). Left g.K.Kind.places family.words (base_in f family) (sets_in f family) ms c.loop-node.done (head_of c.loop-node.heads)) e c.loop-node.invariant in
-    left_done g.K.Kind.places family.words (base_in f family) (sets_in f family) (view f x) _ c.loop-node.done (head_of c.loop-node.heads) c.if-not-meets.ensures left
+    left_done g.K.Kind.places family.words (base_in f family) (sets_in f family) (view f x) _ c.loop-node.done c.both.result (head_of c.loop-node.heads) (search rules) c.if-both-eq0.false c.both.ensures left
 
 pub returns : goal.returns
 returns g c =
