@@ -1,10 +1,10 @@
 // The ranking of a sheet's trees: each take hands out the heaviest that is still untaken, up to fifty.
 #![tactic(auto)]
 
-ghost use Rattle.std.specs.Prelude.{◌≡◌, ℕ, suc, ◌<◌, ◌≤◌, List, [], length};
+ghost use Rattle.std.specs.Prelude.{◌≡◌, ℕ, suc, ◌<◌, ◌≤◌, List, [], length, IfOk};
 ghost use Rattle.ranking.specs.Calls.{passes_unless, take_check, Took};
 ghost use Rattle.ranking.specs.Memory.{Memory, memory_of, HoldsArcs, StandsFor};
-ghost use Rattle.ranking.specs.Steps.{NextTree};
+ghost use Rattle.ranking.specs.Steps.{NextTree, RoomFor};
 ghost use Rattle.ranking.specs.Takes.{FirstIsHeaviest, Settled};
 ghost use Rattle.search.specs.Space.{RoomIn, SameParts};
 ghost use Rattle.search.specs.State.{Room};
@@ -48,7 +48,8 @@ pub fn end<K: Kind>(ranking: Ranking<K>) -> Sheet<K>
 impl<K> Ranking<K> {
     // Whether a take passes the checks that come before a tree is sought.
     fn take_check(&self, lengths: Lengths, space: usize) -> Result<(), Refusal>
-        ensures { result ≡ passes_unless (take_check self.now.sheet.words lengths space self.now.taken) }
+        ensures checked { result ≡ passes_unless (take_check self.now.sheet.words lengths space self.now.taken) }
+        ensures room { IfOk result (λ _. RoomFor self.now.sheet.words lengths space self.now.taken) }
     {
         if self.sheet.too_short(lengths) {
             return Err(Refusal::ShortMemory);
