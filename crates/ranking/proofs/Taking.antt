@@ -4,7 +4,7 @@ use Rattle.sheet.specs.Candidates.{cell, outranking}
 use Rattle.sheet.specs.declared.Candidate.{Candidate}
 use Rattle.cells.specs.Accounts.{Accounted, Next}
 use Rattle.queue.specs.Heap.{Ordered}
-use Rattle.ranking.specs.Calls.{lengths_of, passes_unless, take_check, SameBeyond, Took}
+use Rattle.ranking.specs.Calls.{lengths_of, take_check, SameBeyond, Took}
 use Rattle.ranking.specs.Memory.{Memory, HoldsArcs, HoldsTrees, StandsFor, Waits}
 use Rattle.ranking.specs.Steps.{Comes, RoomFor}
 use Rattle.ranking.specs.Takes.{HandedOut, Tells}
@@ -16,7 +16,7 @@ use Rattle.refusal.specs.declared.Refusal.{Refusal}
 use Rattle.sheet.proofs.Lists.{nth_set_same}
 use Rattle.sheet.proofs.Tables.{passes, last_passes}
 use Rattle.sheet.specs.Arcs.{Arcs}
-use Rattle.sheet.specs.Calls.{or_else, refuse_if, too_short}
+use Rattle.sheet.specs.Calls.{or_else, refuse_if, checked, too_short}
 use Rattle.sheet.specs.declared.Lengths.{Lengths}
 use Rattle.std.proofs.lemmas.List.{take-set-le}
 use Rattle.std.proofs.lemmas.Bool.{cases_eq, ltb-false, le-ltb, or_parts, eqb-false, eqb-true}
@@ -25,11 +25,11 @@ use Rattle.weight.specs.Range.{Range}
 use Rattle.weight.specs.Worth.{Worth}
 
 -- a call that went on passed its check, and one that did not was refused by it
-pub passed : (o : Option Refusal) (u : Unit {0}) → Ok u ≡ passes_unless o → o ≡ None
+pub passed : (o : Option Refusal) (u : Unit {0}) → Ok u ≡ checked o → o ≡ None
 passed None u e = refl
 passed (Some why) u e = cc
 
-pub stopped : (o : Option Refusal) (e : Refusal) → Err e ≡ passes_unless o → o ≡ Some e
+pub stopped : (o : Option Refusal) (e : Refusal) → Err e ≡ checked o → o ≡ Some e
 stopped None e q = cc
 stopped (Some why) e q = cc
 

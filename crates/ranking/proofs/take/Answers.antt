@@ -16,7 +16,7 @@ returns-in_err-take_check-clause-took g c =
     let is = err_from_is_err_and {Q = λ why. why ≡ c.in_err-take_check.field-0.0} c.from_residual.result c.from_residual.ensures.1 in
     let e : c.from_residual.result ≡ Err c.in_err-take_check.field-0.0 = is.1 ∙ ap Err is.2 in
     let m = memory_of c.args.weights.now c.args.sets.now c.args.candidates.now c.args.working.now in
-    rw e (refused_first g.K.Kind.worth g.K.Kind.ranges c.args.ranking.now m c.args.space.now c.in_err-take_check.field-0.0 (stopped _ _ c.in_err-take_check.ensures.checked))
+    rw e (refused_first g.K.Kind.worth g.K.Kind.ranges c.args.ranking.now m c.args.space.now c.in_err-take_check.field-0.0 (stopped _ _ c.in_err-take_check.ensures.answer))
 
 pub returns-in_err-x-clause-took : goal.returns-in_err-x-clause-took
 returns-in_err-x-clause-took g c =
@@ -25,7 +25,7 @@ returns-in_err-x-clause-took g c =
     let e : c.from_residual-in_err-x.result ≡ Err c.in_err-x.field-0.0 = search rules in
     let next = c.in_err-x.ensures.next in
     rw e
-    (none_found g.K.Kind.worth g.K.Kind.ranges c.args.ranking.now m _ c.args.space.now (passed _ _ c.in_ok-take_check.ensures.checked) refl c.in_err-x.ensures.sets
+    (none_found g.K.Kind.worth g.K.Kind.ranges c.args.ranking.now m _ c.args.space.now (passed _ _ c.in_ok-take_check.ensures.answer) refl c.in_err-x.ensures.sets
     (record {
       candidates = ap (drop 51) next.unchanged;
       nodes = beyond (c.words-words.result + 1) _ _ _ (omega arith) r.nodes c.next_within.auto.nodes;
@@ -43,7 +43,7 @@ returns-clause-took g c =
     let count = c.count_one-count.ensures in
     let long : 50 < length c.next_within.new.candidates = omega (arith, c.next_within.auto.candidates) in
     let written : length c.copy_from_slice.new.self ≡ c.args.ranking.now.sheet.words = c.copy_from_slice.ensures.len ∙ (length-take-le c.words-words.result c.args.space.now (omega arith) ∙ c.words-words.ensures) in
-    tree_found g.K.Kind.worth g.K.Kind.ranges c.args.ranking.now m _ c.args.space.now (passed _ _ c.in_ok-take_check.ensures.checked) refl c.in_ok-x.ensures.sets
+    tree_found g.K.Kind.worth g.K.Kind.ranges c.args.ranking.now m _ c.args.space.now (passed _ _ c.in_ok-take_check.ensures.answer) refl c.in_ok-x.ensures.sets
     (record {
       candidates = drop-set-lt 51 c.next_within.new.candidates 50 x (omega arith) ∙ further 50 51 c.args.candidates.now c.next_within.new.candidates (omega arith) next.beyond;
       nodes = beyond (c.words-words.result + 1) _ _ _ (omega arith) r.nodes c.next_within.auto.nodes;
