@@ -2,7 +2,7 @@
 use Rattle.pentrace.specs.declared.Line.TheVariants.{Call, NoCall}
 use Rattle.pentrace.specs.declared.Line.{Line}
 use Rattle.run.specs.declared.Call.{Call as Made}
-use Rattle.weight.specs.declared.score.Score.{Score}
+use Rattle.weight.specs.Numbers.{Score}
 use Rattle.std.specs.Prelude.{List, [], ◌∷◌}
 
 -- the calls among the lines, in their order

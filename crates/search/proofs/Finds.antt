@@ -1,6 +1,6 @@
 -- From a heaviest arborescence over the root layer to a heaviest single-root tree
-use Rattle.std.proofs.Common.{◌≡◌, ℕ, zero, suc, ◌+◌, ◌-◌, ◌*◌, ◌^◌, ◌≤◌, Bool, true, false, cond, eqb, List, [], ◌∷◌, length, get_or, take, drop, pos, negsuc, sym, ap, ◌∙◌, arith}
-use Rattle.std.proofs.lemmas.List.{get_or-take, get_or-drop, get_or_default, length-drop, same_lists}
+use Rattle.std.proofs.Common.{◌≡◌, ℕ, zero, suc, ◌+◌, ◌-◌, ◌*◌, ◌^◌, ◌≤◌, Bool, true, false, cond, eqb, List, [], ◌∷◌, ◌++◌, length, get_or, take, drop, pos, negsuc, sym, ap, ◌∙◌, arith}
+use Rattle.std.proofs.lemmas.List.{get_or-take, take-append-le, drop-append-le, take_all, drop_all}
 use Rattle.std.proofs.lemmas.Int.{ints}
 use Rattle.weight.specs.Range.{Range, Ranged, limit}
 use Rattle.weight.specs.Worth.{Worth, zeros, plus, Within}
@@ -70,8 +70,8 @@ pub front_head : (n : ℕ) (heads : List ℕ) (w : ℕ) → Word n w → head_of
 front_head n heads zero v = absurd (omega arith)
 front_head n heads (suc i) v = get_or-take n heads i 0 (omega arith)
 
-pub rest_same : (n : ℕ) (a b : List ℕ) → length a ≡ length b → ((k : ℕ) → n ≤ k → get_or a k 0 ≡ get_or b k 0) → drop n a ≡ drop n b
-rest_same n a b l same =
-    let ll : length (drop n a) ≡ length (drop n b) = length-drop n a ∙ (ap (λ (k : ℕ). k - n) l ∙ sym (length-drop n b)) in
-    same_lists (drop n a) (drop n b) ll
-    (λ k d lt. get_or_default (drop n a) k d 0 lt ∙ (get_or-drop n a k 0 ∙ (same (n + k) (omega arith) ∙ (sym (get_or-drop n b k 0) ∙ get_or_default (drop n b) k 0 d (omega arith)))))
+pub new_front : (n : ℕ) (front rest : List ℕ) → length front ≡ n → (take n (front ++ rest) ≡ front) × (drop n (front ++ rest) ≡ rest)
+new_front n front rest e =
+    let le : n ≤ length front = omega arith in
+    let all : length front ≤ n = omega arith in
+    (take-append-le n front rest le ∙ take_all n front all, drop-append-le n front rest le ∙ ap (λ (xs : List ℕ). xs ++ rest) (drop_all n front all))

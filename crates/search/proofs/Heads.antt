@@ -1,15 +1,14 @@
-use Rattle.std.proofs.Common.{◌≡◌, ℕ, zero, suc, ◌+◌, ◌-◌, ◌<◌, ◌≤◌, Bool, true, false, ◌||◌, eqb, ◌⊎◌, List, ◌∷◌, length, set, sym, refl, ap, ◌∙◌, subst, inl, inr, arith}
+use Rattle.std.proofs.Common.{◌≡◌, ℕ, zero, suc, ◌+◌, ◌-◌, ◌^◌, ◌<◌, ◌≤◌, Bool, true, false, ◌&&◌, ◌||◌, eqb, ◌⊎◌, List, [], ◌∷◌, All, length, set, sym, refl, ap, ◌∙◌, subst, inl, inr, arith}
 use Rattle.std.proofs.lemmas.List.{get_or-set_same, get_or-set_other}
-use Rattle.std.proofs.lemmas.Bool.{cases_eq}
-use Rattle.weight.specs.Worth.{Worth, plus}
+use Rattle.std.proofs.lemmas.Bool.{both_ways, and_parts, eqb-true}
+use Rattle.weight.specs.Worth.{Worth, zeros, plus}
 use Rattle.tree.specs.Chains.{Word, head_of}
 use Rattle.word_set.specs.Bits.{in_set}
+use Rattle.word_set.proofs.Sets.{in_set_empty, lowest_in}
 use Rattle.search.specs.Family.{Group, Valid}
-use Rattle.search.specs.State.{family}
-use Rattle.search.specs.Opening.{Opened, Meets, Lined}
-use Rattle.search.proofs.Records.{family_step}
-use Rattle.search.proofs.Stages.{valid_begun}
-use Rattle.search.proofs.Openings.{open_done, open_own}
+use Rattle.search.specs.Opening.{Opened, Meets, Lined, Ended, Opens}
+use Rattle.search.proofs.Stages.{valid_begun, valid_laid}
+use Rattle.search.proofs.Openings.{goal_of, open_start, open_done, open_own, open_end}
 
 pub heads_here : (heads : List ℕ) (w x : ℕ) → 1 ≤ w → w ≤ length heads → head_of (set heads (w - 1) x) w ≡ x
 heads_here heads zero x a b = absurd (omega arith)
@@ -19,41 +18,74 @@ pub heads_there : (heads : List ℕ) (w x v : ℕ) → 1 ≤ w → (v ≡ w → 
 heads_there heads w x zero a ne = refl
 heads_there heads w x (suc j) a ne = let q : j ≡ w - 1 → ⊥ = λ e. ne (omega arith) in get_or-set_other heads (w - 1) j x 0 q
 
-module _ (n : ℕ) (stands : ℕ → ℕ → Bool) (worth : ℕ → ℕ → Worth) (z : Worth) (nought : (h d : ℕ) → Word n d → h ≤ n → plus (worth h d) z ≡ worth h d) (base node : ℕ → Group) where
-  pub valid_down : (j k : ℕ) → k ≤ j → Valid n stands worth z base (family node j) → Valid n stands worth z base (family node k)
-  valid_down zero k le valid = let e : k ≡ 0 = omega arith in rw e valid
-  valid_down (suc j) k le valid = by (cases_eq k (suc j)) (valid_down j k)
+module _ (n : ℕ) (stands : ℕ → ℕ → Bool) (worth : ℕ → ℕ → Worth) (z : Worth) (nought : (h d : ℕ) → Word n d → h ≤ n → plus (worth h d) z ≡ worth h d) (base : ℕ → Group) where
+  pub lined : (ms : List Group) → Valid n stands worth z base ms → Lined n base ms
+  lined ms valid = record { words = λ w v. ((valid_begun n stands worth z nought base ms valid).arc w v).in_line; sets = each ms valid }
     where
-      by : (k ≡ suc j) ⊎ (k ≡ suc j → ⊥) → (k ≤ j → Valid n stands worth z base (family node j) → Valid n stands worth z base (family node k)) → Valid n stands worth z base (family node k)
-      by (inl e) more = subst (λ (i : ℕ). Valid n stands worth z base (family node i)) (sym e) valid
-      by (inr e) more = more (omega arith) valid.0
+      each : (ms : List Group) → Valid n stands worth z base ms → All (λ m. Word n m.to × (m.from ≤ n)) ms
+      each [] valid k d lt = absurd (omega arith)
+      each (m ∷ ms) valid zero d lt = (valid.1.union.word, valid.1.arc.in_line)
+      each (m ∷ ms) valid (suc k) d lt = each ms valid.0 k d (omega arith)
 
-  module _ (left : ℕ) (some : 0 < left) (valid : Valid n stands worth z base (family node left)) (goal : Worth) where
-    shown : Valid n stands worth z base (node (left - 1) ∷ family node (left - 1))
-    shown = subst (Valid n stands worth z base) (family_step node left some) valid
+-- the sets that are left to open, the newest first
+pub record Left (p n : ℕ) (base : ℕ → Group) (all ms : List Group) (done : ℕ) (head : ℕ → ℕ) : Type 0 where
+  pub lined : All (λ m. Word n m.to × (m.from ≤ n)) ms
+  pub words : (v : ℕ) → in_set done v ≡ true → Word n v
+  pub opened : (stands : ℕ → ℕ → Bool) (worth : ℕ → ℕ → Worth) → Ended p n stands worth base all → Valid n stands worth (zeros (suc p)) base ms × Opened n stands worth (zeros (suc p)) base ms (goal_of n base all) done head
 
-    pub set_word : Word n (node (left - 1)).to
-    set_word = shown.1.union.word
+-- a word that two sets share, where what they share is not empty
+meeting : {n : ℕ} (a b shared : ℕ) → shared < 2 ^ 64 → (shared ≡ 0 → ⊥) → ((v : ℕ) → in_set shared v ≡ (in_set a v && in_set b v)) → ((v : ℕ) → in_set b v ≡ true → Word n v) → Meets n a b true
+meeting a b shared few some is words =
+    let at = lowest_in shared (omega (arith, some)) few in
+    let p = and_parts (in_set a _) (in_set b _) (sym (is _) ∙ at.1) in
+    (_, words _ p.1, p.0, p.1)
 
-    pub set_from : (node (left - 1)).from ≤ n
-    set_from = shown.1.arc.in_line
-
-    pub opens_done : (done : ℕ) (head : ℕ → ℕ) → Meets n (node (left - 1)).members done true → Opened n stands worth z base (family node left) goal done head → Opened n stands worth z base (family node (left - 1)) goal done head
-    opens_done done head v o =
-        open_done n stands worth z nought base (node (left - 1)) (family node (left - 1)) shown goal done head (subst (λ (l : List Group). Opened n stands worth z base l goal done head) (family_step node left some) o) v.0 v.1 v.2 v.3
-
-    pub opens_own : (done done' bit : ℕ) (head head' : ℕ → ℕ) → Meets n (node (left - 1)).members done false → ((v : ℕ) → in_set done' v ≡ (in_set done v || in_set bit v)) → ((v : ℕ) → in_set bit v ≡ eqb v (node (left - 1)).to) →
-        head' (node (left - 1)).to ≡ (node (left - 1)).from → ((w : ℕ) → (w ≡ (node (left - 1)).to → ⊥) → head' w ≡ head w) → Opened n stands worth z base (family node left) goal done head → Opened n stands worth z base (family node (left - 1)) goal done' head'
-    opens_own done done' bit head head' apart is one here there o =
-        open_own n stands worth z nought base (node (left - 1)) (family node (left - 1)) shown goal done done' head head' (subst (λ (l : List Group). Opened n stands worth z base l goal done head) (family_step node left some) o) apart
-        (λ v. is v ∙ ap (λ (b : Bool). in_set done v || b) (one v)) here (λ w v q. there w q)
-
-  pub lined : (j : ℕ) → Valid n stands worth z base (family node j) → Lined n base node j
-  lined j valid =
+module _ (p n : ℕ) (base : ℕ → Group) (all : List Group) where
+  pub left_start : (done : ℕ) (head : ℕ → ℕ) → Lined n base all → ((v : ℕ) → in_set done v ≡ false) → ((w : ℕ) → Word n w → head w ≡ (base w).from) → Left p n base all all done head
+  left_start done head lined none fill =
       record {
-        words = λ w v. ((valid_begun n stands worth z nought base (family node j) valid).arc w v).in_line;
-        sets = λ i lt.
-            let down = valid_down j (i + 1) (omega arith) valid in
-            let e : i + 1 - 1 ≡ i = omega arith in
-            subst (λ (k : ℕ). Word n (node k).to × ((node k).from ≤ n)) e (set_word (i + 1) (omega arith) down z, set_from (i + 1) (omega arith) down z);
+        lined = lined.sets;
+        words = λ v t. absurd (both_ways (in_set done v) (none v) t);
+        opened = λ stands worth ended.
+            let z : Worth = zeros (suc p) in
+            (ended.valid, open_start n stands worth z ended.sound.whole base all ended.valid (valid_laid n stands worth z ended.sound.whole base all ended.valid) ended.reach done head none fill);
       }
+
+  -- a word of the set has its head already
+  pub left_done : (m : Group) (ms : List Group) (done shared : ℕ) (head : ℕ → ℕ) → shared < 2 ^ 64 → (shared ≡ 0 → ⊥) → ((v : ℕ) → in_set shared v ≡ (in_set m.members v && in_set done v)) → Left p n base all (m ∷ ms) done head → Left p n base all ms done head
+  left_done m ms done shared head few some is left =
+      record {
+        lined = λ k d lt. left.lined (suc k) d (omega arith);
+        words = left.words;
+        opened = λ stands worth ended.
+            let v = meeting m.members done shared few some is left.words in
+            let o = left.opened stands worth ended in
+            (o.0.0, open_done n stands worth (zeros (suc p)) ended.sound.whole base m ms o.0 (goal_of n base all) done head o.1 v.0 v.1 v.2 v.3);
+      }
+
+  -- none has
+  pub left_own : (m : Group) (ms : List Group) (done done' bit shared : ℕ) (head head' : ℕ → ℕ) → shared ≡ 0 → ((v : ℕ) → in_set shared v ≡ (in_set m.members v && in_set done v)) → ((v : ℕ) → in_set done' v ≡ (in_set done v || in_set bit v)) → ((v : ℕ) → in_set bit v ≡ eqb v m.to) →
+      head' m.to ≡ m.from → ((w : ℕ) → (w ≡ m.to → ⊥) → head' w ≡ head w) → Left p n base all (m ∷ ms) done head → Left p n base all ms done' head'
+  left_own m ms done done' bit shared head head' none both is one here there left =
+      record {
+        lined = λ k d lt. left.lined (suc k) d (omega arith);
+        words = λ v t. word v (or_parts (in_set done v) (in_set bit v) (sym (is v) ∙ t));
+        opened = λ stands worth ended.
+            let o = left.opened stands worth ended in
+            (o.0.0, open_own n stands worth (zeros (suc p)) ended.sound.whole base m ms o.0 (goal_of n base all) done done' head head' o.1 (λ v w t. apart (in_set m.members v) (in_set done v) t (sym (both v) ∙ (ap (λ (x : ℕ). in_set x v) none ∙ in_set_empty v))) (λ v. is v ∙ ap (λ (b : Bool). in_set done v || b) (one v)) here (λ w v q. there w q));
+      }
+    where
+      apart : (a b : Bool) → a ≡ true → (a && b) ≡ false → b ≡ false
+      apart true b t e = e
+      apart false b t e = absurd (both_ways false refl t)
+
+      or_parts : (a b : Bool) → (a || b) ≡ true → (a ≡ true) ⊎ (b ≡ true)
+      or_parts true b t = inl refl
+      or_parts false b t = inr t
+
+      word : (v : ℕ) → (in_set done v ≡ true) ⊎ (in_set bit v ≡ true) → Word n v
+      word v (inl t) = left.words v t
+      word v (inr t) = subst (Word n) (sym (eqb-true v m.to (sym (one v) ∙ t))) (left.lined 0 m (omega arith)).0
+
+  pub left_end : (done : ℕ) (head : ℕ → ℕ) → Left p n base all [] done head → Opens p n base all head
+  left_end done head left stands worth ended = open_end n stands worth (zeros (suc p)) ended.sound.whole base all ended.valid done head (left.opened stands worth ended).1

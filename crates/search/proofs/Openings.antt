@@ -16,6 +16,10 @@ use Rattle.search.specs.Ring.{Laid}
 use Rattle.search.proofs.Rings.{up_rep}
 use Rattle.search.proofs.Families.{id_arcs, entered, valid_sets, valid_good}
 
+-- what a heaviest arborescence weighs
+abbrev pub goal_of : ℕ → (ℕ → Group) → List Group → Worth
+goal_of n base ms = sum_if (leads (rep_of ms)) (best_of base ms) n
+
 module _ (n : ℕ) (stands : ℕ → ℕ → Bool) (worth : ℕ → ℕ → Worth) (z : Worth) (nought : (h d : ℕ) → Word n d → h ≤ n → plus (worth h d) z ≡ worth h d) (base : ℕ → Group) where
   circle : (m : Group) (ms : List Group) → Valid n stands worth z base (m ∷ ms) → Circle n stands worth (rep_of ms) (add_of n z base ms) (best_of base ms) (in_set m.members) (from_of base ms) (λ ℓ. ℓ)
   circle m ms valid =
@@ -147,11 +151,8 @@ module _ (n : ℕ) (stands : ℕ → ℕ → Bool) (worth : ℕ → ℕ → Wort
                 let ne = away (o.built.to ℓ) arc.word arc.inside in
                 inr (record { is_done = old (o.built.to ℓ) ne ∙ a.is_done; is_head = there (o.built.to ℓ) arc.word ne ∙ a.is_head; only = λ v w e d. a.only v w e (sym (old v (away v w e)) ∙ d) })
 
-  abbrev pub goal_of : List Group → Worth
-  goal_of ms = sum_if (leads (rep_of ms)) (best_of base ms) n
-
   -- before the opening
-  pub open_start : (ms : List Group) → Valid n stands worth z base ms → Laid n base ms → ((w : ℕ) → Word n w → Reaches (from_of base ms) w) → (done : ℕ) (head : ℕ → ℕ) → ((v : ℕ) → in_set done v ≡ false) → ((w : ℕ) → Word n w → head w ≡ (base w).from) → Opened n stands worth z base ms (goal_of ms) done head
+  pub open_start : (ms : List Group) → Valid n stands worth z base ms → Laid n base ms → ((w : ℕ) → Word n w → Reaches (from_of base ms) w) → (done : ℕ) (head : ℕ → ℕ) → ((v : ℕ) → in_set done v ≡ false) → ((w : ℕ) → Word n w → head w ≡ (base w).from) → Opened n stands worth z base ms (goal_of n base ms) done head
   open_start ms valid laid reach done head none fill =
       record { built = record { from = from_of base ms; to = λ ℓ. ℓ; arc = λ ℓ l. (e ℓ l).arc; arrives = arrives; enough = sum_le (leads (rep_of ms)) (best_of base ms) (λ ℓ. plus (worth (from_of base ms ℓ) ℓ) (add_of n z base ms ℓ)) n (λ ℓ v t. at_most_eq _ _ (e ℓ (merges.leader_from n (rep_of ms) ℓ v t)).valued) }; held = λ ℓ l. inl (record { none = λ v w q. none v; own_from = refl; own_to = refl }); rest = λ w v f. fill w v }
     where
@@ -179,17 +180,17 @@ module _ (n : ℕ) (stands : ℕ → ℕ → Bool) (worth : ℕ → ℕ → Wort
         (record { in_line = λ w v. rw (same w v) (tree.in_line w v); reaches = λ w v. let r = tree.reaches w v in chain r.0 w v.1 r.1; standing = λ w v. rw (same w v) (tree.standing w v) }, sum_same (λ w. true) (λ w. true) (λ w. worth (h' w) w) (λ w. worth (h w) w) n (λ w v. refl) (λ w v t. ap (λ (x : ℕ). worth x w) (same w v)))
 
   -- after the opening
-  pub open_end : (ms : List Group) → Valid n stands worth z base ms → (done : ℕ) (head : ℕ → ℕ) → Opened n stands worth z base [] (goal_of ms) done head → BestOfAll n stands worth head
+  pub open_end : (ms : List Group) → Valid n stands worth z base ms → (done : ℕ) (head : ℕ → ℕ) → Opened n stands worth z base [] (goal_of n base ms) done head → BestOfAll n stands worth head
   open_end ms valid done head o =
       let g = valid_good n stands worth z nought base ms valid in
       let e = entered n stands worth z nought base ms valid in
-      (is.0, λ other tree. at_most_trans _ _ _ (above.end n stands worth (rep_of ms) (add_of n z base ms) (best_of base ms) g.sets (λ ℓ l. (e ℓ l).covers) g.above other tree) (subst (AtMost (goal_of ms)) (sym is.1) t.1))
+      (is.0, λ other tree. at_most_trans _ _ _ (above.end n stands worth (rep_of ms) (add_of n z base ms) (best_of base ms) g.sets (λ ℓ l. (e ℓ l).covers) g.above other tree) (subst (AtMost (goal_of n base ms)) (sym is.1) t.1))
     where
-      b : Built n stands worth (λ w. w) (λ w. []) (goal_of ms)
+      b : Built n stands worth (λ w. w) (λ w. []) (goal_of n base ms)
       b = record { from = o.built.from; to = o.built.to; arc = o.built.arc; arrives = o.built.arrives; enough = rw (id_arcs n stands worth z nought o.built.from o.built.to o.built.arc) at o.built.enough }
 
-      t : Tree n stands o.built.from × AtMost (goal_of ms) (tree_worth worth o.built.from n)
-      t = bottom_from n stands worth (goal_of ms) (record { from = o.built.from; to = o.built.to; arc = o.built.arc; arrives = o.built.arrives; enough = rw (id_arcs n stands worth z nought o.built.from o.built.to o.built.arc) at o.built.enough })
+      t : Tree n stands o.built.from × AtMost (goal_of n base ms) (tree_worth worth o.built.from n)
+      t = bottom_from n stands worth (goal_of n base ms) (record { from = o.built.from; to = o.built.to; arc = o.built.arc; arrives = o.built.arrives; enough = rw (id_arcs n stands worth z nought o.built.from o.built.to o.built.arc) at o.built.enough })
 
       same : (w : ℕ) → Word n w → head w ≡ o.built.from w
       same w v = by (o.held w (record { word = v; own = refl }))

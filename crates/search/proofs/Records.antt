@@ -1,5 +1,5 @@
-use Rattle.std.proofs.Common.{◌≡◌, ℕ, zero, suc, ◌+◌, ◌-◌, ◌<◌, ◌≤◌, Bool, true, false, cond, ◌||◌, eqb, ◌⊎◌, List, [], ◌∷◌, length, get_or, sym, refl, ap, ◌∙◌, subst, inl, inr, arith}
-use Rattle.std.proofs.lemmas.List.{get_or-map}
+use Rattle.std.proofs.Common.{◌≡◌, ℕ, zero, suc, ◌+◌, ◌-◌, ◌<◌, ◌≤◌, Bool, true, false, cond, ◌||◌, eqb, ◌⊎◌, List, [], ◌∷◌, ◌++◌, map, reverse, length, get_or, take, take-suc, find, Some, Option, MatchOption, sym, refl, ap, ◌∙◌, subst, inl, inr, arith}
+use Rattle.std.proofs.lemmas.List.{get_or-map, reverse-append}
 use Rattle.std.proofs.lemmas.Bool.{cases_lt, cases_Bool, both_ways, cond-true, cond-false, eqb-true, eq-eqb}
 use Rattle.weight.specs.Worth.{Worth}
 use Rattle.tree.specs.Chains.{up, Reaches}
@@ -16,6 +16,31 @@ node_is f nodes i x l e = ap (view f) e ∙ sym (get_or-map (view f) nodes i x b
 pub family_step : (node : ℕ → Group) (j : ℕ) → 0 < j → family node j ≡ node (j - 1) ∷ family node (j - 1)
 family_step node zero h = absurd (omega arith)
 family_step node (suc j) h = let e : suc j - 1 ≡ j = omega arith in rw e refl
+
+-- the sets that were made, the newest first
+pub family_made : {K : Type 0} (f : K → Worth) (xs : List (Node K)) (j : ℕ) → j ≤ length xs → family (group_at f xs) j ≡ map (view f) (reverse (take j xs))
+family_made f xs zero le = refl
+family_made f [] (suc j) le = absurd (omega arith)
+family_made f (x ∷ xs) (suc j) le =
+    let l : j < length (x ∷ xs) = omega arith in
+    let y = get_or (x ∷ xs) j x in
+    let here : group_at f (x ∷ xs) j ≡ view f y = get_or-map (view f) (x ∷ xs) j x blank l in
+    let rest = family_made f (x ∷ xs) j (omega arith) in
+    let front : reverse (take (suc j) (x ∷ xs)) ≡ y ∷ reverse (take j (x ∷ xs)) = ap reverse (take-suc (x ∷ xs) j x l) ∙ reverse-append (take j (x ∷ xs)) (y ∷ []) in
+    ap (λ (g : Group). g ∷ family (group_at f (x ∷ xs)) j) here ∙ (ap (λ (l : List Group). view f y ∷ l) rest ∙ sym (ap (map (view f)) front))
+
+-- the newest of the sets in front of the others
+pub newest : {K : Type 0} (f : K → Worth) (xs rest : List (Node K)) (x : Node K) → xs ≡ rest ++ (x ∷ []) → map (view f) (reverse xs) ≡ view f x ∷ map (view f) (reverse rest)
+newest f xs rest x e = ap (λ ys. map (view f) (reverse ys)) e ∙ ap (map (view f)) (reverse-append rest (x ∷ []))
+
+-- the first set that the word is in, or the word alone
+pub entry_found : {K : Type 0} (f : K → Worth) (base : ℕ → Group) (w : ℕ) (xs : List (Node K)) (o : Option (Node K)) → o ≡ find (λ x. in_set x.members w) xs → MatchOption o (base w ≡ entry base (map (view f) xs) w) (λ x. view f x ≡ entry base (map (view f) xs) w)
+entry_found f base w [] o e = rw e refl
+entry_found f base w (x ∷ xs) o e = by (in_set x.members w) e (entry_found f base w xs o)
+  where
+    by : (b : Bool) → o ≡ cond b (Some x) (find (λ x. in_set x.members w) xs) → (o ≡ find (λ x. in_set x.members w) xs → MatchOption o (base w ≡ entry base (map (view f) xs) w) (λ y. view f y ≡ entry base (map (view f) xs) w)) → MatchOption o (base w ≡ cond b (view f x) (entry base (map (view f) xs) w)) (λ y. view f y ≡ cond b (view f x) (entry base (map (view f) xs) w))
+    by true e more = rw e refl
+    by false e more = more e
 
 module _ (base : ℕ → Group) where
   pub entry_from : (ms : List Group) (w : ℕ) → (entry base ms w).from ≡ from_of base ms w

@@ -1,5 +1,7 @@
 -- The scan for the best arc
 use Rattle.std.proofs.Common.{◌≡◌, ℕ, ◌+◌, ◌-◌, ◌*◌, ◌<◌, ◌≤◌, Bool, true, false, cond, not, ◌&&◌, T, eqb, leb, ◌⊎◌, List, [], map, length, get_or, Some, None, Option, sym, refl, ap, ◌∙◌, subst, inl, inr, arith}
+use Rattle.std.specs.Bool.{then_some}
+use Rattle.std.specs.Option.{option_or}
 use Rattle.std.proofs.lemmas.List.{get_or-map}
 use Rattle.std.proofs.lemmas.Bool.{cases_lt, cases_Bool, cases_eq, both_ways, and_from, and_parts, not-true, eq-eqb, ne_eqb, leb-true, le-leb}
 use Rattle.std.proofs.lemmas.Nat.{mul-add-lt}
@@ -48,12 +50,12 @@ module _ (w : ℕ → Worth) where
   abbrev pub Seen : ℕ → ℕ → Option ℕ → Type 0
   Seen heads left best = ((h : ℕ) → in_set left h ≡ true → in_set heads h ≡ true) × BestHead (λ h. in_set heads h && not (in_set left h)) w best
 
-  pub seen_more : (heads left bit left' : ℕ) (best : Option ℕ) (from : ℕ) → ((h : ℕ) → in_set left' h ≡ (in_set left h && not (in_set bit h))) → ((h : ℕ) → in_set bit h ≡ eqb h from) → in_set left from ≡ true → Seen heads left best → Seen heads left' (Some (better_head w best from))
-  seen_more heads left bit left' best from is one here s = (
-    λ h t. s.0 h (and_parts (in_set left h) (not (in_set bit h)) (sym (is h) ∙ t)).0,
+  pub seen_more : (heads left left' : ℕ) (best : Option ℕ) (from : ℕ) → ((h : ℕ) → in_set left' h ≡ (in_set left h && not (eqb h from))) → in_set left from ≡ true → Seen heads left best → Seen heads left' (Some (better_head w best from))
+  seen_more heads left left' best from is here s = (
+    λ h t. s.0 h (and_parts (in_set left h) (not (eqb h from)) (sym (is h) ∙ t)).0,
     head_more (λ h. in_set heads h && not (in_set left h)) (λ h. in_set heads h && not (in_set left' h)) best from
-        (and_from (in_set heads from) (not (in_set left' from)) (s.0 from here) (ap not (is from ∙ gone (in_set left from) (in_set bit from) (one from ∙ eq-eqb from from refl))))
-        (λ h t. let p = and_parts (in_set heads h) (not (in_set left h)) t in and_from (in_set heads h) (not (in_set left' h)) p.0 (ap not (is h ∙ ap (λ (b : Bool). b && not (in_set bit h)) (not-true (in_set left h) p.1))))
+        (and_from (in_set heads from) (not (in_set left' from)) (s.0 from here) (ap not (is from ∙ gone (in_set left from) (eqb from from) (eq-eqb from from refl))))
+        (λ h t. let p = and_parts (in_set heads h) (not (in_set left h)) t in and_from (in_set heads h) (not (in_set left' h)) p.0 (ap not (is h ∙ ap (λ (b : Bool). b && not (eqb h from)) (not-true (in_set left h) p.1))))
         (λ h t. let p = and_parts (in_set heads h) (not (in_set left' h)) t in split h p.0 (not-true (in_set left' h) p.1) (cases_Bool (in_set left h)) (cases_eq h from)) s.1,
   )
     where
@@ -64,7 +66,7 @@ module _ (w : ℕ → Worth) where
       split : (h : ℕ) → in_set heads h ≡ true → in_set left' h ≡ false → (in_set left h ≡ true) ⊎ (in_set left h ≡ false) → (h ≡ from) ⊎ (h ≡ from → ⊥) → ((in_set heads h && not (in_set left h)) ≡ true) ⊎ (h ≡ from)
       split h t f c (inl e) = inr e
       split h t f (inr l) (inr ne) = inl (and_from (in_set heads h) (not (in_set left h)) t (ap not l))
-      split h t f (inl l) (inr ne) = absurd (both_ways (in_set left' h) f (is h ∙ and_from (in_set left h) (not (in_set bit h)) l (ap not (one h ∙ ne_eqb h from ne))))
+      split h t f (inl l) (inr ne) = absurd (both_ways (in_set left' h) f (is h ∙ and_from (in_set left h) (not (eqb h from)) l (ap not (ne_eqb h from ne))))
 
   pub seen_all : (heads left : ℕ) (best : Option ℕ) → ((h : ℕ) → in_set left h ≡ false) → Seen heads left best → BestHead (in_set heads) w best
   seen_all heads left None none s = λ h. sym (whole (in_set heads h) (in_set left h) (none h)) ∙ s.1 h
@@ -87,7 +89,7 @@ module _ (worth : ℕ → ℕ → Worth) (to heads root words : ℕ) (is : (h : 
       by true b e = ap not e
       by false b e = refl
 
-  pub head_word : (b : ℕ) → BestHead (in_set words) (λ h. worth h to) (Some b) → BestHead (in_set heads) (λ h. rooted worth h to) (Some b)
+  head_word : (b : ℕ) → BestHead (in_set words) (λ h. worth h to) (Some b) → BestHead (in_set heads) (λ h. rooted worth h to) (Some b)
   head_word b best = (p.0, λ h t. front_word worth to b h nb (by h t (cases_eq h 0)))
     where
       p : (in_set heads b ≡ true) × (not (in_set root b) ≡ true)
@@ -100,19 +102,28 @@ module _ (worth : ℕ → ℕ → Worth) (to heads root words : ℕ) (is : (h : 
       by h t (inl e) = inl e
       by h t (inr ne) = inr (ne, best.1 h (word_in h ne ∙ t))
 
-  pub head_root : in_set heads 0 ≡ true → BestHead (in_set words) (λ h. worth h to) None → BestHead (in_set heads) (λ h. rooted worth h to) (Some 0)
+  head_root : in_set heads 0 ≡ true → BestHead (in_set words) (λ h. worth h to) None → BestHead (in_set heads) (λ h. rooted worth h to) (Some 0)
   head_root zero_in none = (zero_in, λ h t. by h t (cases_eq h 0))
     where
       by : (h : ℕ) → in_set heads h ≡ true → (h ≡ 0) ⊎ (h ≡ 0 → ⊥) → AtMost (rooted worth h to) (rooted worth 0 to)
       by h t (inl e) = rw e (at_most_refl (rooted worth 0 to))
       by h t (inr ne) = absurd (both_ways (in_set words h) (none h) (word_in h ne ∙ t))
 
-  pub head_none : in_set heads 0 ≡ false → BestHead (in_set words) (λ h. worth h to) None → BestHead (in_set heads) (λ h. rooted worth h to) None
+  head_none : in_set heads 0 ≡ false → BestHead (in_set words) (λ h. worth h to) None → BestHead (in_set heads) (λ h. rooted worth h to) None
   head_none zero-out none = λ h. by h (cases_eq h 0)
     where
       by : (h : ℕ) → (h ≡ 0) ⊎ (h ≡ 0 → ⊥) → in_set heads h ≡ false
       by h (inl e) = rw e zero-out
       by h (inr ne) = sym (word_in h ne) ∙ none h
+
+  -- the best of the words, or else the root where it is one of the heads
+  pub head_either : (best : Option ℕ) → BestHead (in_set words) (λ h. worth h to) best → BestHead (in_set heads) (λ h. rooted worth h to) (option_or best (then_some (in_set heads 0) 0))
+  head_either (Some b) best = head_word b best
+  head_either None best = by (in_set heads 0) refl
+    where
+      by : (t : Bool) → in_set heads 0 ≡ t → BestHead (in_set heads) (λ h. rooted worth h to) (then_some t 0)
+      by true e = head_root e best
+      by false e = head_none e best
 
 -- ---- the best of some arcs
 module _ {K : Type 0} (f : K → Worth) (w : ℕ → ℕ → Worth) where

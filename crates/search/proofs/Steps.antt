@@ -4,17 +4,15 @@ use Rattle.std.proofs.lemmas.List.{map-set, get_or-set_same, get_or-set_other, l
 use Rattle.weight.specs.Worth.{Worth, plus, minus, Within}
 use Rattle.tree.specs.Chains.{Word}
 use Rattle.arborescence.specs.Sum.{sum_if}
-use Rattle.arborescence.specs.Search.{Tree, leads}
+use Rattle.arborescence.specs.Search.{leads}
 use Rattle.weight.proofs.Worths.{plus_zeros, within_more}
-use Rattle.weight.specs.declared.root.Root.{Root}
-use Rattle.search.specs.declared.arcs.Entering.{Entering}
 use Rattle.search.specs.declared.family.Node.{Node}
 use Rattle.word_set.specs.Bits.{in_set}
 use Rattle.weight.specs.Worth.{zeros}
-use Rattle.weight.specs.Layers.{root_worth}
+use Rattle.weight.specs.Layers.{Root, root_worth}
 use Rattle.search.specs.Arcs.{Sound, potential, Best, SetArc, with_potential}
 use Rattle.search.specs.Family.{Group, rep_of, best_of, add_of, Valid}
-use Rattle.search.specs.State.{view, blank, group_at, family, State}
+use Rattle.search.specs.State.{view, blank, group_at, family, NoTree, State}
 use Rattle.search.specs.Ring.{Laid, Ring}
 use Rattle.search.proofs.Stages.{valid_laid}
 use Rattle.search.proofs.Joining.{at_length, merge_none, agree_after, valid_after}
@@ -38,50 +36,62 @@ pub length_family : (node : ℕ → Group) (j : ℕ) → length (family node j) 
 length_family node zero = refl
 length_family node (suc j) = ap suc (length_family node j)
 
+-- what is known in a state, where `ms` are the sets that were made, the newest first
+pub record Known {K : Type 0} (f : K → Worth) (p n : ℕ) (stands : ℕ → ℕ → Bool) (words : List (Node K)) (adds : List (Root K)) (ms : List Group) : Type 0 where
+  pub laid : Laid n (group_at f words) ms
+  pub value : (w : ℕ) → Word n w → Within (2 ^ 26) (best_of (group_at f words) ms w)
+  pub added : (w : ℕ) → Word n w → Within (2 ^ 30) (potential f adds w)
+  pub all : (q : ℕ → Bool) → Within (2 ^ 32) (plus (zeros (suc p)) (sum_if q (best_of (group_at f words) ms) n))
+  pub room : (S : ℕ) → Ring n (group_at f words) ms S → length ms + 2 ≤ n
+  pub none : (S : ℕ) → Ring n (group_at f words) ms S → ((h d : ℕ) → SetArc n (n + 1) stands S h d → ⊥) → NoTree n stands
+
 module _
     {K : Type 0} (f : K → Worth) (p : ℕ) (sized : (x : K) → length (f x) ≡ p) (n : ℕ) (few : n ≤ 40) (stands : ℕ → ℕ → Bool) (worth : ℕ → ℕ → Worth) (sound : Sound n stands worth (zeros (suc p)))
-    (words merges : List (Node K)) (adds : List (Root K)) (made : ℕ) (adds-in : n < length adds) (state : State f p n stands worth words merges adds made)
+    (words merges : List (Node K)) (adds : List (Root K)) (made : ℕ) (adds-in : n < length adds) (state : State f p n stands worth words merges adds made) (ms : List Group) (is_made : family (group_at f merges) made ≡ ms)
   where
-    pub state_laid : Laid n (group_at f words) (family (group_at f merges) made)
-    state_laid = valid_laid n stands worth (zeros (suc p)) sound.whole (group_at f words) (family (group_at f merges) made) state.valid
+    valid : Valid n stands worth (zeros (suc p)) (group_at f words) ms
+    valid = subst (Valid n stands worth (zeros (suc p)) (group_at f words)) is_made state.valid
 
-    pub state_value : (w : ℕ) → Word n w → Within (2 ^ 26) (best_of (group_at f words) (family (group_at f merges) made) w)
-    state_value = value_small p n few stands worth sound (group_at f words) (family (group_at f merges) made) state.valid
+    agree : (d : ℕ) → Word n d → potential f adds d ≡ add_of n (zeros (suc p)) (group_at f words) ms d
+    agree = subst (λ (l : List Group). (d : ℕ) → Word n d → potential f adds d ≡ add_of n (zeros (suc p)) (group_at f words) l d) is_made state.agree
 
-    pub state_added : (w : ℕ) → Word n w → Within (2 ^ 30) (potential f adds w)
-    state_added w v = subst (Within (2 ^ 30)) (sym (state.agree w v)) (within_more (2 ^ 26) (2 ^ 30) (add_of n (zeros (suc p)) (group_at f words) (family (group_at f merges) made) w) (omega arith) (add_small p n few stands worth sound (group_at f words) (family (group_at f merges) made) state.valid w v))
+    laid : Laid n (group_at f words) ms
+    laid = valid_laid n stands worth (zeros (suc p)) sound.whole (group_at f words) ms valid
 
-    pub state_all : (q : ℕ → Bool) → Within (2 ^ 32) (plus (zeros (suc p)) (sum_if q (best_of (group_at f words) (family (group_at f merges) made)) n))
-    state_all = all_small p n few stands worth sound (group_at f words) (family (group_at f merges) made) state.valid
+    pub known : Known f p n stands words adds ms
+    known =
+        record {
+          laid = laid;
+          value = value_small p n few stands worth sound (group_at f words) ms valid;
+          added = λ w v. subst (Within (2 ^ 30)) (sym (agree w v)) (within_more (2 ^ 26) (2 ^ 30) (add_of n (zeros (suc p)) (group_at f words) ms w) (omega arith) (add_small p n few stands worth sound (group_at f words) ms valid w v));
+          all = all_small p n few stands worth sound (group_at f words) ms valid;
+          room = room p n few stands worth sound (group_at f words) ms valid;
+          none = λ S ring. merge_none f p n stands worth (group_at f words) ms laid S ring ring.some.0 ring.some.1 ring.some.2;
+        }
 
-    module _ (S : ℕ) (ring : Ring n (group_at f words) (family (group_at f merges) made) S) where
-      pub state_room : made + 2 ≤ n
-      state_room = omega (arith, length_family (group_at f merges) made, room p n few stands worth sound (group_at f words) (family (group_at f merges) made) state.valid S ring)
+    pub length_made : length ms ≡ made
+    length_made = ap length (sym is_made) ∙ length_family (group_at f merges) made
 
-      pub none_after : ((h d : ℕ) → SetArc n (n + 1) stands S h d → ⊥) → (head : ℕ → ℕ) → Tree n stands head → ⊥
-      none_after = merge_none f p n stands worth (group_at f words) (family (group_at f merges) made) state_laid S ring ring.some.0 ring.some.1 ring.some.2
+    module _
+        (S : ℕ) (ring : Ring n (group_at f words) ms S) (all : Worth) (adds' : List (Root K)) (all-is : all ≡ plus (zeros (suc p)) (sum_if (λ ℓ. leads (rep_of ms) ℓ && in_set S ℓ) (best_of (group_at f words) ms) n))
+        (NewIs : (d : ℕ) → Word n d → potential f adds' d ≡ cond (in_set S d) (minus (plus (potential f adds d) all) (best_of (group_at f words) ms d)) (potential f adds d))
+      where
+        full : (d : ℕ) → Word n d → plus (potential f adds d) (zeros (suc p)) ≡ potential f adds d
+        full d v = plus_zeros (potential f adds d) (suc p) (at_length (root_worth f) (suc p) (λ m. ap suc (sized m.rest)) adds d (omega arith))
 
-      module _
-          (all : Worth) (adds' : List (Root K))
-          (all-is : all ≡ plus (zeros (suc p)) (sum_if (λ ℓ. leads (rep_of (family (group_at f merges) made)) ℓ && in_set S ℓ) (best_of (group_at f words) (family (group_at f merges) made)) n))
-          (NewIs : (d : ℕ) → Word n d → potential f adds' d ≡ cond (in_set S d) (minus (plus (potential f adds d) all) (best_of (group_at f words) (family (group_at f merges) made) d)) (potential f adds d))
-        where
-          full : (d : ℕ) → Word n d → plus (potential f adds d) (zeros (suc p)) ≡ potential f adds d
-          full d v = plus_zeros (potential f adds d) (suc p) (at_length (root_worth f) (suc p) (λ m. ap suc (sized m.0.rest)) adds d (omega arith))
+        agree' : (m : Group) → m.members ≡ S → (d : ℕ) → Word n d → potential f adds' d ≡ add_of n (zeros (suc p)) (group_at f words) (m ∷ ms) d
+        agree' = agree_after f p n stands worth (group_at f words) ms laid (potential f adds) (potential f adds') S all full all-is NewIs agree
 
-          agree' : (m : Group) → m.members ≡ S → (d : ℕ) → Word n d → potential f adds' d ≡ add_of n (zeros (suc p)) (group_at f words) (m ∷ family (group_at f merges) made) d
-          agree' = agree_after f p n stands worth (group_at f words) (family (group_at f merges) made) state_laid (potential f adds) (potential f adds') S all full all-is NewIs state.agree
+        pub new_added : (d : ℕ) → Word n d → Within (2 ^ 30) (potential f adds' d)
+        new_added d v =
+            let m : Group = record { members = S; from = 0; to = 0; value = [] } in
+            let e = agree' m refl d v in
+            subst (Within (2 ^ 30)) (sym e) (within_more (2 ^ 26) (2 ^ 30) (add_of n (zeros (suc p)) (group_at f words) (m ∷ ms) d) (omega arith) (new_small p n few stands worth sound (group_at f words) ms valid S ring d v))
 
-          pub new_added : (d : ℕ) → Word n d → Within (2 ^ 30) (potential f adds' d)
-          new_added d v =
-              let m : Group = record { members = S; from = 0; to = 0; value = [] } in
-              let e = agree' m refl d v in
-              subst (Within (2 ^ 30)) (sym e) (within_more (2 ^ 26) (2 ^ 30) (add_of n (zeros (suc p)) (group_at f words) (m ∷ family (group_at f merges) made) d) (omega arith) (new_small p n few stands worth sound (group_at f words) (family (group_at f merges) made) state.valid S ring d v))
-
-          pub state_after : (e : Entering K) (x : Node K) → made < length merges → view f x ≡ record { members = S; from = e.from; to = e.to; value = root_worth f e.value } → Best f (SetArc n (n + 1) stands S) (with_potential worth (potential f adds')) (Some e) → State f p n stands worth words (set merges made x) adds' (made + 1)
-          state_after e x l is best =
-              let q = family_set f merges made x l in
-              record {
-                valid = subst (Valid n stands worth (zeros (suc p)) (group_at f words)) (sym q) (valid_after f p n stands worth (group_at f words) (family (group_at f merges) made) state_laid (potential f adds) (potential f adds') S all full all-is NewIs state.agree state.valid ring e best (view f x) is);
-                agree = λ d v. agree' (view f x) (ap (λ (g : Group). g.members) is) d v ∙ ap (λ (l : List Group). add_of n (zeros (suc p)) (group_at f words) l d) (sym q);
-              }
+        pub state_after : (x : Node K) → made < length merges → x.members ≡ S → Best f (SetArc n (n + 1) stands S) (with_potential worth (potential f adds')) (Some x.arc) → State f p n stands worth words (set merges made x) adds' (made + 1)
+        state_after x l is best =
+            let q = family_set f merges made x l ∙ ap (λ (l : List Group). view f x ∷ l) is_made in
+            record {
+              valid = subst (Valid n stands worth (zeros (suc p)) (group_at f words)) (sym q) (valid_after f p n stands worth (group_at f words) ms laid (potential f adds) (potential f adds') S all full all-is NewIs agree valid ring x.arc best (view f x) (rw is refl));
+              agree = λ d v. agree' (view f x) is d v ∙ ap (λ (l : List Group). add_of n (zeros (suc p)) (group_at f words) l d) (sym q);
+            }

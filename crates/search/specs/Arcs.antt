@@ -2,12 +2,12 @@
 -- and weights[(d - 1) * (n + 1) + h] is its weight. The first words can be held, each at a given head.
 use Rattle.std.specs.Prelude.{◌≡◌, ℕ, ◌+◌, ◌-◌, ◌*◌, ◌^◌, ◌<◌, ◌≤◌, Bool, true, false, cond, ◌&&◌, ◌||◌, List, [], map, length, Some, None, Option, ◌==◌, nat_lt, slice_index, slice_index_or}
 use Rattle.weight.specs.Worth.{Worth, plus, at_most, AtMost, Within}
-use Rattle.weight.specs.Layers.{root_worth}
+use Rattle.weight.specs.Layers.{Root, root_worth}
 use Rattle.weight.specs.Range.{Range, entry_in}
-use Rattle.weight.specs.declared.root.Root.{Root}
 use Rattle.tree.specs.Chains.{Word, head_of}
 use Rattle.arborescence.specs.Heads.{rooted}
 use Rattle.search.specs.declared.arcs.Entering.{Entering}
+use Rattle.search.specs.declared.graph.Graph.{Graph}
 use Rattle.word_set.specs.Bits.{in_set}
 
 -- whether the arc from h to d stands, and is that of d's held head where d is held
@@ -20,6 +20,20 @@ weight_at f n weights h d = slice_index_or (map f weights) ((d - 1) * (n + 1) + 
 -- the same with the place of the root layer in front
 abbrev pub arc_worth : {K : Type 0} → (K → Worth) → ℕ → List K → ℕ → ℕ → Worth
 arc_worth f n weights = rooted (weight_at f n weights)
+
+-- the same of the graph that a search looks at
+abbrev pub stands_in : {K : Type 0} → Graph K → ℕ → ℕ → Bool
+stands_in graph = allowed graph.sets.now graph.held.now
+
+abbrev pub weight_in : {K : Type 0} → (K → Worth) → Graph K → ℕ → ℕ → Worth
+weight_in f graph = weight_at f graph.words graph.weights.now
+
+abbrev pub arc_in : {K : Type 0} → (K → Worth) → Graph K → ℕ → ℕ → Worth
+arc_in f graph = arc_worth f graph.words graph.weights.now
+
+-- the set's words are on the line, or the root
+abbrev pub InLine : (n set : ℕ) → Type 0
+InLine n set = (h : ℕ) → in_set set h ≡ true → h ≤ n
 
 -- the potential of a word
 abbrev pub potential : {K : Type 0} → (K → Worth) → List (Root K) → ℕ → Worth

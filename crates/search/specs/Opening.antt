@@ -1,5 +1,5 @@
 -- The family is opened from the newest set to the oldest: each set's word gets its head, unless a word of the set has one already
-use Rattle.std.specs.Prelude.{◌≡◌, ℕ, suc, ◌<◌, ◌≤◌, Bool, true, false, ◌⊎◌, List}
+use Rattle.std.specs.Prelude.{◌≡◌, ℕ, suc, ◌<◌, ◌≤◌, Bool, true, false, ◌⊎◌, List, All}
 use Rattle.weight.specs.Worth.{Worth, AtMost}
 use Rattle.tree.specs.Chains.{Word, Reaches}
 use Rattle.arborescence.specs.Search.{Leader, Built, Tree, tree_worth}
@@ -7,7 +7,6 @@ use Rattle.word_set.specs.Bits.{in_set}
 use Rattle.weight.specs.Worth.{zeros}
 use Rattle.search.specs.Arcs.{Sound}
 use Rattle.search.specs.Family.{Group, rep_of, from_of, add_of, Valid}
-use Rattle.search.specs.State.{family, head_by}
 
 -- no word of the set has its head yet, and the set has its own arc
 pub record Shut (n : ℕ) (base : ℕ → Group) (ms : List Group) (done : ℕ) (from to : ℕ → ℕ) (ℓ : ℕ) : Type 0 where
@@ -37,16 +36,16 @@ BestOfAll n stands worth head = Tree n stands head × ((other : ℕ → ℕ) →
 
 -- ---- what the opening is given
 -- the arcs of the words and of the sets lie on the line
-pub record Lined (n : ℕ) (base node : ℕ → Group) (made : ℕ) : Type 0 where
+pub record Lined (n : ℕ) (base : ℕ → Group) (ms : List Group) : Type 0 where
   pub words : (w : ℕ) → Word n w → (base w).from ≤ n
-  pub sets : (i : ℕ) → i < made → Word n (node i).to × ((node i).from ≤ n)
+  pub sets : All (λ m. Word n m.to × (m.from ≤ n)) ms
 
 -- the sets are those of a search of these arcs that has come to its end
-pub record Ended (p n : ℕ) (stands : ℕ → ℕ → Bool) (worth : ℕ → ℕ → Worth) (base node : ℕ → Group) (made : ℕ) : Type 0 where
+pub record Ended (p n : ℕ) (stands : ℕ → ℕ → Bool) (worth : ℕ → ℕ → Worth) (base : ℕ → Group) (ms : List Group) : Type 0 where
   pub sound : Sound n stands worth (zeros (suc p))
-  pub valid : Valid n stands worth (zeros (suc p)) base (family node made)
-  pub reach : (w : ℕ) → Word n w → Reaches (head_by base node made) w
+  pub valid : Valid n stands worth (zeros (suc p)) base ms
+  pub reach : (w : ℕ) → Word n w → Reaches (from_of base ms) w
 
 -- whatever arcs it was a search of, the heads are a heaviest arborescence over them
-abbrev pub Opens : (p n : ℕ) (base node : ℕ → Group) (made : ℕ) (head : ℕ → ℕ) → Type 0
-Opens p n base node made head = (stands : ℕ → ℕ → Bool) (worth : ℕ → ℕ → Worth) → Ended p n stands worth base node made → BestOfAll n stands worth head
+abbrev pub Opens : (p n : ℕ) (base : ℕ → Group) (ms : List Group) (head : ℕ → ℕ) → Type 0
+Opens p n base ms head = (stands : ℕ → ℕ → Bool) (worth : ℕ → ℕ → Worth) → Ended p n stands worth base ms → BestOfAll n stands worth head

@@ -1,18 +1,18 @@
 -- The records of a search: of the root at 0 and the words at 1 to n, and of the sets that were made, in their order
-use Rattle.std.specs.Prelude.{◌≡◌, ℕ, zero, suc, ◌+◌, ◌-◌, ◌*◌, ◌<◌, ◌≤◌, Bool, true, ◌||◌, List, [], ◌∷◌, map, Some, None, Ok, Err, Option, Result, ◌==◌, slice_index_or}
+use Rattle.std.specs.Prelude.{◌≡◌, ℕ, zero, suc, ◌+◌, ◌-◌, ◌*◌, ◌<◌, ◌≤◌, Bool, true, ◌||◌, List, [], ◌∷◌, map, reverse, ⊤, Some, None, Ok, Err, Option, Result, ◌==◌, slice_index_or}
 use Rattle.weight.specs.Worth.{Worth, plus}
 use Rattle.tree.specs.Chains.{Word, up, Reaches}
 use Rattle.arborescence.specs.Search.{Tree, Into, Covers}
+use Rattle.search.specs.declared.family.Family.{Family as Records}
 use Rattle.search.specs.declared.family.Node.{Node}
 use Rattle.word_set.specs.Bits.{in_set}
-use Rattle.weight.specs.declared.root.Root.{Root}
 use Rattle.weight.specs.Worth.{zeros}
-use Rattle.weight.specs.Layers.{root_worth}
+use Rattle.weight.specs.Layers.{Root, root_worth}
 use Rattle.search.specs.Arcs.{potential}
 use Rattle.search.specs.Family.{Group, from_of, add_of, Valid}
 
 abbrev pub view : {K : Type 0} → (K → Worth) → Node K → Group
-view f node = record { members = node.members; from = node.from; to = node.to; value = root_worth f node.value }
+view f node = record { members = node.members; from = node.arc.from; to = node.arc.to; value = root_worth f node.arc.value }
 
 abbrev pub blank : Group
 blank = record { members = 0; from = 0; to = 0; value = [] }
@@ -29,15 +29,25 @@ family node (suc j) = node j ∷ family node j
 abbrev pub head_by : (ℕ → Group) → (ℕ → Group) → ℕ → ℕ → ℕ
 head_by base node j w = from_of base (family node j) w
 
+-- the same of the records that a search has so far
+abbrev pub base_in : {K : Type 0} → (K → Worth) → Records K → ℕ → Group
+base_in f records = group_at f records.nodes.now
+
+abbrev pub sets_in : {K : Type 0} → (K → Worth) → Records K → List Group
+sets_in f records = map (view f) (reverse records.made.now)
+
+abbrev pub head_in : {K : Type 0} → (K → Worth) → Records K → ℕ → ℕ
+head_in f records = from_of (base_in f records) (sets_in f records)
+
 -- where a walk along the heads came to: each word that it met leads to one that was fine, or it met one twice
 abbrev pub Walked : ℕ → (ℕ → ℕ) → ℕ → ℕ → Result ℕ ℕ → Type 0
 Walked n head fine start (Ok seen) = ((x : ℕ) → in_set seen x ≡ true → (k : ℕ) × (in_set fine (up head k x) ≡ true)) × ((in_set fine start || in_set seen start) ≡ true)
 Walked n head fine start (Err w) = Word n w × ((k : ℕ) × (up head (suc k) w ≡ w))
 
 -- every word's heads lead to the root, or this word's lead back to it
-abbrev pub Found : ℕ → (ℕ → ℕ) → Option ℕ → Type 0
-Found n head None = (w : ℕ) → Word n w → Reaches head w
-Found n head (Some w) = Word n w × ((k : ℕ) × (up head (suc k) w ≡ w))
+abbrev pub Found : ℕ → (ℕ → ℕ) → Result ⊤ ℕ → Type 0
+Found n head (Ok _) = (w : ℕ) → Word n w → Reaches head w
+Found n head (Err w) = Word n w × ((k : ℕ) × (up head (suc k) w ≡ w))
 
 -- ---- the search between two merges, of arcs that stand and their worths: p places below the root layer's
 pub record State {K : Type 0} (f : K → Worth) (p n : ℕ) (stands : ℕ → ℕ → Bool) (worth : ℕ → ℕ → Worth) (nodes merges : List (Node K)) (potentials : List (Root K)) (made : ℕ) : Type 0 where
@@ -52,9 +62,19 @@ pub record Room (n sets weights nodes merges potentials : ℕ) : Type 0 where
   pub merges_in : n ≤ merges + 1
   pub potentials_in : n < potentials
 
+-- the parts of the working space are long enough
+pub record SpaceFor (n nodes merges potentials : ℕ) : Type 0 where
+  pub nodes_in : n < nodes
+  pub merges_in : n ≤ merges + 1
+  pub potentials_in : n < potentials
+
+-- no arborescence stands
+abbrev pub NoTree : (n : ℕ) (stands : ℕ → ℕ → Bool) → Type 0
+NoTree n stands = (head : ℕ → ℕ) → Tree n stands head → ⊥
+
 -- what the growing comes to: a state in which every word's heads lead to the root, or no tree
 abbrev pub Grown : {K : Type 0} → (K → Worth) → (p n : ℕ) → (stands : ℕ → ℕ → Bool) (worth : ℕ → ℕ → Worth) → List (Node K) → List (Node K) → List (Root K) → Option ℕ → Type 0
-Grown f p n stands worth nodes merges potentials None = (head : ℕ → ℕ) → Tree n stands head → ⊥
+Grown f p n stands worth nodes merges potentials None = NoTree n stands
 Grown f p n stands worth nodes merges potentials (Some made) = State f p n stands worth nodes merges potentials made × ((w : ℕ) → Word n w → Reaches (head_by (group_at f nodes) (group_at f merges) made) w) × (made ≤ n - 1)
 
 -- the words before k have their best arcs

@@ -1,14 +1,6 @@
 // Sets of words, where the words are known to be on a line.
-ghost use Rattle.std.specs.Prelude.{◌≡◌, ℕ, ◌<◌, true, ◌==◌, nat_le};
+ghost use Rattle.std.specs.Prelude.{◌≡◌, ℕ, ◌<◌, nat_le};
 ghost use Rattle.word_set.specs.Bits.{in_set};
-
-// The set of one word.
-pub(crate) fn only(word: usize) -> u64
-    requires { word < 64 }
-    ensures { (v : ℕ) → in_set result v ≡ (v == word) }
-{
-    1 << word
-}
 
 // The root and the words 1 to n.
 pub(crate) fn line(n: usize) -> u64
@@ -16,12 +8,4 @@ pub(crate) fn line(n: usize) -> u64
     ensures { (v : ℕ) → in_set result v ≡ nat_le v n }
 {
     (1 << (n + 1)) - 1
-}
-
-// A word of a set that has one.
-pub(crate) fn first(set: u64) -> usize
-    requires { 0 < set }
-    ensures { (result < 64) × (in_set set result ≡ true) }
-{
-    set.trailing_zeros() as usize
 }

@@ -1,160 +1,164 @@
 // The sets of words that a search has made, and the walk along their heads.
-ghost use Rattle.std.specs.Prelude.{◌≡◌, ℕ, ◌+◌, ◌<◌, ◌≤◌, true, ◌∷◌, length, set as put};
-ghost use Rattle.word_set.specs.Bits.{in_set};
-ghost use Rattle.search.specs.Family.{entry};
-ghost use Rattle.search.specs.Ring.{Laid, Periodic, Ring};
-ghost use Rattle.search.specs.State.{view, group_at, family, head_by, Walked, Found};
-ghost use Rattle.tree.specs.Chains.{Word};
-ghost use Rattle.weight.specs.Layers.{root_place};
+ghost use Rattle.std.specs.Prelude.{◌<◌, ◌≤◌, length};
 
-use crate::bits::only;
+use crate::arcs::Entering;
 use weight::{Kind, Root};
-use word_set::{either, holds};
+use word_set::{either, holds, only};
 
-// A set of words, with the arc by which it is best entered, and that arc's value.
+// A set of words, with the arc by which it is best entered.
 #[derive(Clone, Copy)]
 pub struct Node<K> {
     pub(crate) members: u64,
-    pub(crate) from: usize,
-    pub(crate) to: usize,
-    pub(crate) value: Root<K>,
+    pub(crate) arc: Entering<K>,
 }
 
 impl<K: Kind> Node<K> {
+    ghost use Rattle.std.specs.Prelude.{◌≡◌, ◌∷◌};
+    ghost use Rattle.search.specs.State.{view};
+    ghost use Rattle.weight.specs.Layers.{root_place};
+
     // A record to fill the working space with.
     pub fn new(weight: K) -> Node<K>
         ensures { view K.Kind.worth result ≡ record { members = 0; from = 0; to = 0; value = root_place 0 ∷ K.Kind.worth weight } }
     {
         Node {
             members: 0,
-            from: 0,
-            to: 0,
-            value: Root::new(0, weight),
+            arc: Entering {
+                from: 0,
+                to: 0,
+                value: Root::new(0, weight),
+            },
         }
     }
 }
 
-// The largest set that the word is in.
-pub(crate) fn top<K: Kind + Copy>(
-    n: usize,
-    nodes: &[Node<K>],
-    merges: &[Node<K>],
-    made: usize,
-    word: usize,
-) -> Node<K>
-    requires { (n ≤ 40) × (((n < length nodes.now) × (made ≤ length merges.now)) × ((made < 64) × (word ≤ n))) }
-    ensures { view K.Kind.worth result ≡ entry (group_at K.Kind.worth nodes.now) (family (group_at K.Kind.worth merges.now) made) word }
-{
-    let mut left = made;
-    while left > 0 {
-        let node = merges[left - 1];
-        if holds(node.members, word) {
-            return node;
+// The records of a search so far: of the root at 0 and the words after it, and of the sets that it made, the oldest first.
+#[derive(Drop)]
+pub(crate) struct Family<'a, K> {
+    pub(crate) words: usize,
+    pub(crate) nodes: &'a [Node<K>],
+    pub(crate) made: &'a [Node<K>],
+    ghost few: { words ≤ 40 },
+    ghost nodes_in: { words < length nodes.now },
+}
+
+impl<K: Kind + Copy> Family<'_, K> {
+    ghost use Rattle.std.specs.Prelude.{◌≡◌, ℕ, suc, ◌^◌, ◌<◌, ◌≤◌, true, length, ◌&&◌, if◌then◌else◌};
+    ghost use Rattle.arborescence.specs.Search.{leads};
+    ghost use Rattle.arborescence.specs.Sum.{sum_if};
+    ghost use Rattle.search.specs.Arcs.{potential};
+    ghost use Rattle.search.specs.Family.{entry, rep_of, best_of};
+    ghost use Rattle.search.specs.Ring.{Laid, Periodic, Ring};
+    ghost use Rattle.search.specs.State.{view, base_in, sets_in, head_in, Walked, Found};
+    ghost use Rattle.tree.specs.Chains.{Word};
+    ghost use Rattle.weight.specs.Layers.{root_worth};
+    ghost use Rattle.weight.specs.Worth.{zeros, plus, minus, Within};
+    ghost use Rattle.word_set.specs.Bits.{in_set};
+
+    // The largest set that the word is in.
+    fn top(&self, word: usize) -> Node<K>
+        requires { word ≤ self.now.words }
+        ensures { view K.Kind.worth result ≡ entry (base_in K.Kind.worth self.now) (sets_in K.Kind.worth self.now) word }
+    {
+        match self
+            .made
+            .iter()
+            .rev()
+            .find(|node| holds(node.members, word))
+        {
+            Some(node) => *node,
+            None => self.nodes[word],
         }
-        left -= 1;
     }
-    nodes[word]
-}
 
-// The head of the word's set.
-fn head<K: Kind + Copy>(
-    n: usize,
-    nodes: &[Node<K>],
-    merges: &[Node<K>],
-    made: usize,
-    word: usize,
-) -> usize
-    requires { (n ≤ 40) × (((n < length nodes.now) × (made ≤ length merges.now)) × ((made < 64) × (word ≤ n))) }
-    ensures { result ≡ head_by (group_at K.Kind.worth nodes.now) (group_at K.Kind.worth merges.now) made word }
-{
-    top(n, nodes, merges, made, word).from
-}
-
-// Walks along the heads from a word to one that is fine, and returns the words on the way, or a word that it met twice.
-fn walk<K: Kind + Copy>(
-    n: usize,
-    nodes: &[Node<K>],
-    merges: &[Node<K>],
-    made: usize,
-    fine: u64,
-    start: usize,
-) -> Result<u64, usize>
-    requires sizes { (n ≤ 40) × (((n < length nodes.now) × (made ≤ length merges.now)) × ((made < 64) × ((1 ≤ start) × (start ≤ n)))) }
-    requires heads { (((w : ℕ) → Word n w → head_by (group_at K.Kind.worth nodes.now) (group_at K.Kind.worth merges.now) made w ≤ n)) × (in_set fine 0 ≡ true) }
-    ensures { Walked n (head_by (group_at K.Kind.worth nodes.now) (group_at K.Kind.worth merges.now) made) fine start result }
-{
-    let mut seen = 0;
-    let mut word = start;
-    'steps: while !holds(fine, word) {
-        if holds(seen, word) {
-            return Err(word);
-        }
-        seen = either(seen, only(word));
-        word = head(n, nodes, merges, made, word);
+    // The head of the word's set.
+    fn head(&self, word: usize) -> usize
+        requires { word ≤ self.now.words }
+        ensures { result ≡ head_in K.Kind.worth self.now word }
+    {
+        self.top(word).arc.from
     }
-    Ok(seen)
-}
 
-// A word on a ring of heads, or `None` where every word's heads lead to the root.
-pub(crate) fn find_ring<K: Kind + Copy>(
-    n: usize,
-    nodes: &[Node<K>],
-    merges: &[Node<K>],
-    made: usize,
-) -> Option<usize>
-    requires sizes { (n ≤ 40) × (((n < length nodes.now) × (made ≤ length merges.now)) × (made < 64)) }
-    requires heads { (w : ℕ) → Word n w → head_by (group_at K.Kind.worth nodes.now) (group_at K.Kind.worth merges.now) made w ≤ n }
-    ensures { Found n (head_by (group_at K.Kind.worth nodes.now) (group_at K.Kind.worth merges.now) made) result }
-{
-    let mut fine = only(0);
-    for start in 1..n + 1 {
-        match walk(n, nodes, merges, made, fine, start) {
-            Ok(seen) => {
-                fine = either(fine, seen);
+    // Walks along the heads from a word to one that is fine, and returns the words on the way; the error is a word that it met twice.
+    fn walk(&self, fine: u64, start: usize) -> Result<u64, usize>
+        requires start { Word self.now.words start }
+        requires heads { (w : ℕ) → Word self.now.words w → head_in K.Kind.worth self.now w ≤ self.now.words }
+        requires root { in_set fine 0 ≡ true }
+        ensures { Walked self.now.words (head_in K.Kind.worth self.now) fine start result }
+    {
+        let mut seen = 0;
+        let mut word = start;
+        'steps: while !holds(fine, word) {
+            if holds(seen, word) {
+                return Err(word);
             }
-            Err(word) => {
-                return Some(word);
+            seen = either(seen, only(word));
+            word = self.head(word);
+        }
+        Ok(seen)
+    }
+
+    // Walks from each word to the root; the error is a word on a ring of heads.
+    pub(crate) fn walk_all(&self) -> Result<(), usize>
+        requires heads { (w : ℕ) → Word self.now.words w → head_in K.Kind.worth self.now w ≤ self.now.words }
+        ensures { Found self.now.words (head_in K.Kind.worth self.now) result }
+    {
+        let mut fine = only(0);
+        for start in 1..self.words + 1 {
+            fine = either(fine, self.walk(fine, start)?);
+        }
+        Ok(())
+    }
+
+    // The words of the sets of the ring that the word is on.
+    pub(crate) fn ring_members(&self, word: usize) -> u64
+        requires word { Word self.now.words word }
+        requires laid { Laid self.now.words (base_in K.Kind.worth self.now) (sets_in K.Kind.worth self.now) }
+        requires ring { Periodic (head_in K.Kind.worth self.now) word }
+        ensures { Ring self.now.words (base_in K.Kind.worth self.now) (sets_in K.Kind.worth self.now) result }
+    {
+        let mut members = 0;
+        let mut at = word;
+        'steps: while !holds(members, at) {
+            let node = self.top(at);
+            members = either(members, node.members);
+            at = node.arc.from;
+        }
+        members
+    }
+
+    // The sum of the values of the sets whose words are members.
+    pub(crate) fn total(&self, members: u64) -> Root<K>
+        requires laid { Laid self.now.words (base_in K.Kind.worth self.now) (sets_in K.Kind.worth self.now) }
+        requires small { (w : ℕ) → Word self.now.words w → Within (2 ^ 26) (best_of (base_in K.Kind.worth self.now) (sets_in K.Kind.worth self.now) w) }
+        ensures { root_worth K.Kind.worth result ≡ plus (zeros (suc K.Kind.places)) (sum_if (λ ℓ. leads (rep_of (sets_in K.Kind.worth self.now)) ℓ && in_set members ℓ) (best_of (base_in K.Kind.worth self.now) (sets_in K.Kind.worth self.now)) self.now.words) }
+    {
+        let mut sum: Root<K> = <Root<_> as Kind>::nothing();
+        for word in 1..self.words + 1 {
+            let node = self.top(word);
+            if node.arc.to == word {
+                if holds(members, word) {
+                    sum = sum.sum(&node.arc.value);
+                }
+            }
+        }
+        sum
+    }
+
+    // What each member potentials is raised by the total less its set's value.
+    pub(crate) fn raise(&self, members: u64, all: Root<K>, potentials: &mut [Root<K>])
+        requires room { self.now.words < length potentials.old }
+        requires values { (w : ℕ) → Word self.now.words w → Within (2 ^ 26) (best_of (base_in K.Kind.worth self.now) (sets_in K.Kind.worth self.now) w) }
+        requires added { (w : ℕ) → Word self.now.words w → Within (2 ^ 30) (potential K.Kind.worth potentials.old w) }
+        requires total { Within (2 ^ 32) (root_worth K.Kind.worth all) }
+        ensures { (d : ℕ) → Word self.now.words d → potential K.Kind.worth potentials.new d ≡ (if in_set members d then minus (plus (potential K.Kind.worth potentials.old d) (root_worth K.Kind.worth all)) (best_of (base_in K.Kind.worth self.now) (sets_in K.Kind.worth self.now) d) else potential K.Kind.worth potentials.old d) }
+    {
+        for word in 1..self.words + 1 {
+            if holds(members, word) {
+                let node = self.top(word);
+                let sum = potentials[word].sum(&all);
+                potentials[word] = sum.difference(&node.arc.value);
             }
         }
     }
-    None
-}
-
-// The words of the sets of the ring that the word is on.
-pub(crate) fn ring_members<K: Kind + Copy>(
-    n: usize,
-    nodes: &[Node<K>],
-    merges: &[Node<K>],
-    made: usize,
-    word: usize,
-) -> u64
-    requires sizes { (n ≤ 40) × (((n < length nodes.now) × (made ≤ length merges.now)) × ((made < 64) × (Word n word))) }
-    requires laid { (Laid n (group_at K.Kind.worth nodes.now) (family (group_at K.Kind.worth merges.now) made)) × (Periodic (head_by (group_at K.Kind.worth nodes.now) (group_at K.Kind.worth merges.now) made) word) }
-    ensures { Ring n (group_at K.Kind.worth nodes.now) (family (group_at K.Kind.worth merges.now) made) result }
-{
-    let mut members = 0;
-    let mut at = word;
-    'steps: while !holds(members, at) {
-        let node = top(n, nodes, merges, made, at);
-        members = either(members, node.members);
-        at = node.from;
-    }
-    members
-}
-
-// Writes the record of a set.
-pub(crate) fn place<K: Kind + Copy>(merges: &mut [Node<K>], at: usize, node: Node<K>)
-    requires { at < length merges.old }
-    ensures { merges.new ≡ put merges.old at node }
-{
-    merges[at] = node;
-}
-
-// A record.
-pub(crate) fn node_at<K: Kind + Copy>(nodes: &[Node<K>], at: usize) -> Node<K>
-    requires { at < length nodes.now }
-    ensures { view K.Kind.worth result ≡ group_at K.Kind.worth nodes.now at }
-{
-    let node = nodes[at];
-    node
 }

@@ -1,16 +1,15 @@
 // The heaviest dependency tree over the arcs that stand, for every kind of weight.
 #![tactic(auto)]
 
-ghost use Rattle.std.specs.Prelude.{◌≡◌, ℕ, ◌+◌, ◌*◌, ◌<◌, ◌≤◌, length, drop, MatchResult};
+ghost use Rattle.std.specs.Prelude.{◌≡◌, ℕ, ◌+◌, ◌*◌, ◌<◌, ◌≤◌, length, MatchResult};
 ghost use Rattle.refusal.specs.declared.Refusal.{Refusal};
 ghost use Rattle.search.specs.Answer.{Line, FirstRefusal, Searched};
 ghost use Rattle.search.specs.Arcs.{allowed, weight_at};
 ghost use Rattle.search.specs.Space.{RoomIn, SameParts};
 ghost use Rattle.search.specs.State.{Room};
-ghost use Rattle.tree.specs.Chains.{Word, head_of};
 
-use crate::arcs::all_entries;
-use crate::whole::{heaviest, tree_weight};
+use crate::graph::Graph;
+use crate::whole::heaviest;
 use refusal::Refusal;
 use weight::Kind;
 
@@ -18,6 +17,7 @@ mod arcs;
 mod aside;
 mod bits;
 mod family;
+mod graph;
 mod merging;
 mod opening;
 mod whole;
@@ -56,17 +56,6 @@ fn check(
     Ok(())
 }
 
-// Writes the first heads to the front of the space.
-fn hand_out(words: usize, found: &[u8], heads: &mut [u8])
-    requires { (words ≤ length found.now) × (words ≤ length heads.old) }
-    ensures front { (w : ℕ) → Word words w → head_of heads.new w ≡ head_of found.now w }
-    ensures rest { drop words heads.new ≡ drop words heads.old }
-{
-    for i in 0..words {
-        heads[i] = found[i];
-    }
-}
-
 // The heaviest single-root tree of the line over the arcs that stand. Bit h of `sets[d - 1]` is up where the arc from h to d stands,
 // and `weights[(d - 1) * (words + 1) + h]` is its weight. The first words are held, each at its head in `held`.
 // The heads are written to the front of `heads`, and the weight is returned; none where there is no such tree.
@@ -90,26 +79,22 @@ pub fn best_tree<K: Kind + Copy>(
         working.potentials.len(),
         heads.len(),
     )?;
-    if !all_entries(words, sets, held, weights) {
-        return Ok(None);
-    }
-    let mut found = [0; 40];
-    if !heaviest(
+    let graph = Graph {
         words,
         sets,
         held,
         weights,
-        working.nodes,
-        working.merges,
-        working.potentials,
-        &mut found,
-    ) {
+    };
+    if !graph.all_entries() {
         return Ok(None);
     }
-    let total = tree_weight(words, weights, &found);
+    let Some(found) = heaviest(&graph, working.nodes, working.merges, working.potentials) else {
+        return Ok(None);
+    };
+    let total = graph.tree_weight(&found);
     if total.place() != -1 {
         return Ok(None);
     }
-    hand_out(words, &found, heads);
+    heads[..words].copy_from_slice(&found[..words]);
     Ok(Some(total.weight()))
 }

@@ -1,32 +1,17 @@
 // The sets are opened, from the newest to the oldest, and give each word its head.
 ghost use Rattle.std.specs.Prelude.{◌≡◌, ℕ, ◌<◌, ◌≤◌, length};
-ghost use Rattle.search.specs.Opening.{Meets, Lined, Opens};
-ghost use Rattle.search.specs.State.{group_at};
+ghost use Rattle.search.specs.Opening.{Lined, Opens};
+ghost use Rattle.search.specs.State.{group_at, base_in, sets_in};
 ghost use Rattle.tree.specs.Chains.{Word, head_of};
 
-use crate::bits::only;
-use crate::family::{Node, node_at};
+use crate::family::{Family, Node};
 use weight::Kind;
-use word_set::{either, holds};
-
-// Whether two sets have a word in common.
-fn meets(n: usize, a: u64, b: u64) -> bool
-    requires { n ≤ 40 }
-    ensures { Meets n a b result }
-{
-    for word in 1..n + 1 {
-        if holds(a, word) {
-            if holds(b, word) {
-                return true;
-            }
-        }
-    }
-    false
-}
+use word_set::{both, either, only};
 
 // Writes the head of a word.
 fn set_head(heads: &mut [u8], word: usize, from: usize)
-    requires { (1 ≤ word) × ((word ≤ length heads.old) × (from < 256)) }
+    requires word { (1 ≤ word) × (word ≤ length heads.old) }
+    requires from { from < 256 }
     ensures here { head_of heads.new word ≡ from }
     ensures there { (v : ℕ) → (v ≡ word → ⊥) → head_of heads.new v ≡ head_of heads.old v }
 {
@@ -34,37 +19,30 @@ fn set_head(heads: &mut [u8], word: usize, from: usize)
 }
 
 // Gives each word the head of its own best arc.
-fn first_heads<K: Kind + Copy>(n: usize, nodes: &[Node<K>], heads: &mut [u8])
-    requires { (n ≤ 40) × ((n < length nodes.now) × ((n ≤ length heads.old) × (((w : ℕ) → Word n w → (group_at K.Kind.worth nodes.now w).from ≤ n)))) }
-    ensures { (w : ℕ) → Word n w → head_of heads.new w ≡ (group_at K.Kind.worth nodes.now w).from }
+fn first_heads<K: Kind + Copy>(words: usize, nodes: &[Node<K>], heads: &mut [u8])
+    requires few { words ≤ 40 }
+    requires nodes { words < length nodes.now }
+    requires room { words ≤ length heads.old }
+    requires in_line { (w : ℕ) → Word words w → (group_at K.Kind.worth nodes.now w).from ≤ words }
+    ensures { (w : ℕ) → Word words w → head_of heads.new w ≡ (group_at K.Kind.worth nodes.now w).from }
 {
-    for word in 1..n + 1 {
-        let node = nodes[word];
-        set_head(heads, word, node.from);
+    for word in 1..words + 1 {
+        set_head(heads, word, nodes[word].arc.from);
     }
 }
 
 // Opens the sets: each one's word gets the head of the set's arc, unless a word of the set has its head already.
-pub(crate) fn open<K: Kind + Copy>(
-    n: usize,
-    nodes: &[Node<K>],
-    merges: &[Node<K>],
-    made: usize,
-    heads: &mut [u8],
-)
-    requires sizes { (n ≤ 40) × ((n < length nodes.now) × ((made ≤ length merges.now) × (n ≤ length heads.old))) }
-    requires lined { Lined n (group_at K.Kind.worth nodes.now) (group_at K.Kind.worth merges.now) made }
-    ensures { Opens K.Kind.places n (group_at K.Kind.worth nodes.now) (group_at K.Kind.worth merges.now) made (head_of heads.new) }
+pub(crate) fn open<K: Kind + Copy>(family: &Family<'_, K>, heads: &mut [u8])
+    requires room { family.now.words ≤ length heads.old }
+    requires lined { Lined family.now.words (base_in K.Kind.worth family.now) (sets_in K.Kind.worth family.now) }
+    ensures { Opens K.Kind.places family.now.words (base_in K.Kind.worth family.now) (sets_in K.Kind.worth family.now) (head_of heads.new) }
 {
-    first_heads(n, nodes, heads);
+    first_heads(family.words, family.nodes, heads);
     let mut done = 0;
-    let mut left = made;
-    while left > 0 {
-        let node = node_at(merges, left - 1);
-        if !meets(n, node.members, done) {
-            set_head(heads, node.to, node.from);
-            done = either(done, only(node.to));
+    for node in family.made.iter().rev() {
+        if both(node.members, done) == 0 {
+            set_head(heads, node.arc.to, node.arc.from);
+            done = either(done, only(node.arc.to));
         }
-        left -= 1;
     }
 }

@@ -1,124 +1,78 @@
 // The whole search: each word's best arc, the merges, the opening.
-ghost use Rattle.std.specs.Prelude.{◌≡◌, ℕ, suc, ◌+◌, ◌*◌, ◌^◌, ◌<◌, ◌≤◌, true, false, length};
-ghost use Rattle.arborescence.specs.Search.{Tree, tree_worth};
-ghost use Rattle.search.specs.Arcs.{allowed, arc_worth, potential, Sound};
+ghost use Rattle.std.specs.Prelude.{◌≡◌, ℕ, suc, ◌<◌, ◌≤◌, length, MatchOption};
+ghost use Rattle.search.specs.Arcs.{stands_in, arc_in, potential, Sound};
 ghost use Rattle.search.specs.Family.{Begun};
 ghost use Rattle.search.specs.Opening.{BestOfAll};
-ghost use Rattle.search.specs.State.{group_at, Room};
-ghost use Rattle.tree.specs.Chains.{Word, head_of};
-ghost use Rattle.weight.specs.Layers.{root_worth};
-ghost use Rattle.weight.specs.Worth.{zeros, plus, Within};
+ghost use Rattle.search.specs.State.{group_at, NoTree, SpaceFor};
+ghost use Rattle.tree.specs.Chains.{head_of};
+ghost use Rattle.weight.specs.Worth.{zeros};
 
-use crate::arcs::{arc, best_head, open_heads};
-use crate::bits::only;
-use crate::family::{Node, place};
-use crate::merging::{grow, store};
+use crate::arcs::Entering;
+use crate::family::{Family, Node};
+use crate::graph::Graph;
+use crate::merging::grow;
 use crate::opening::open;
 use weight::{Kind, Root};
-use word_set::without;
+use word_set::{only, without};
 
 // Every potential is nothing.
-fn clear<K: Kind + Copy>(n: usize, potentials: &mut [Root<K>])
-    requires { (n ≤ 40) × (n < length potentials.old) }
-    ensures { (w : ℕ) → w ≤ n → potential K.Kind.worth potentials.new w ≡ zeros (suc K.Kind.places) }
+fn clear<K: Kind + Copy>(words: usize, potentials: &mut [Root<K>])
+    requires few { words ≤ 40 }
+    requires room { words < length potentials.old }
+    ensures { (w : ℕ) → w ≤ words → potential K.Kind.worth potentials.new w ≡ zeros (suc K.Kind.places) }
 {
-    for word in 0..n + 1 {
-        let nothing: Root<K> = <Root<_> as Kind>::nothing();
-        store(potentials, word, nothing);
+    for word in 0..words + 1 {
+        potentials[word] = <Root<_> as Kind>::nothing();
     }
 }
 
-// The best arc into each word; `false` where a word has none, and so there is no tree.
-fn begin<K: Kind + Copy>(
-    n: usize,
-    sets: &[u64],
-    held: &[u8],
-    weights: &[K],
-    nodes: &mut [Node<K>],
-) -> bool
-    requires room { (n ≤ 40) × ((n ≤ length sets.now) × ((n * (n + 1) ≤ length weights.now) × (n < length nodes.old))) }
-    requires sound { Sound n (allowed sets.now held.now) (arc_worth K.Kind.worth n weights.now) (zeros (suc K.Kind.places)) }
-    ensures more { result ≡ true → Begun n (allowed sets.now held.now) (arc_worth K.Kind.worth n weights.now) (zeros (suc K.Kind.places)) (group_at K.Kind.worth nodes.new) }
-    ensures none { result ≡ false → (head : ℕ → ℕ) → Tree n (allowed sets.now held.now) head → ⊥ }
+// The best arc into each word; none where a word has none, and so there is no tree.
+fn begin<K: Kind + Copy>(graph: &Graph<'_, K>, nodes: &mut [Node<K>]) -> Option<()>
+    requires room { graph.now.words < length nodes.old }
+    requires sound { Sound graph.now.words (stands_in graph.now) (arc_in K.Kind.worth graph.now) (zeros (suc K.Kind.places)) }
+    ensures { MatchOption result (NoTree graph.now.words (stands_in graph.now)) (λ _. Begun graph.now.words (stands_in graph.now) (arc_in K.Kind.worth graph.now) (zeros (suc K.Kind.places)) (group_at K.Kind.worth nodes.new)) }
 {
-    let nothing: Root<K> = <Root<_> as Kind>::nothing();
-    place(
-        nodes,
-        0,
-        Node {
-            members: 0,
+    let value = <Root<_> as Kind>::nothing();
+    nodes[0] = Node {
+        members: 0,
+        arc: Entering {
             from: 0,
             to: 0,
-            value: nothing,
+            value,
         },
-    );
-    for word in 1..n + 1 {
-        let members = only(word);
-        let heads = without(open_heads(n, sets, held, word), members);
-        match best_head(n, weights, word, heads) {
-            None => {
-                return false;
-            }
-            Some(from) => {
-                let value = arc(n, weights, from, word);
-                place(
-                    nodes,
-                    word,
-                    Node {
-                        members,
-                        from,
-                        to: word,
-                        value,
-                    },
-                );
-            }
-        }
+    };
+    for to in 1..graph.words + 1 {
+        let members = only(to);
+        let from = graph.best_head(to, without(graph.open_heads(to), members))?;
+        let value = graph.arc(from, to);
+        nodes[to] = Node {
+            members,
+            arc: Entering { from, to, value },
+        };
     }
-    true
+    Some(())
 }
 
-// The heads of a heaviest arborescence over the root layer; `false` exactly where there is none.
+// The heads of a heaviest arborescence over the root layer; none exactly where there is none.
 pub(crate) fn heaviest<K: Kind + Copy>(
-    n: usize,
-    sets: &[u64],
-    held: &[u8],
-    weights: &[K],
+    graph: &Graph<'_, K>,
     nodes: &mut [Node<K>],
     merges: &mut [Node<K>],
     potentials: &mut [Root<K>],
-    heads: &mut [u8],
-) -> bool
-    requires few { n ≤ 40 }
-    requires room { Room n (length sets.now) (length weights.now) (length nodes.old) (length merges.old) (length potentials.old) }
-    requires out { n ≤ length heads.old }
-    requires sound { Sound n (allowed sets.now held.now) (arc_worth K.Kind.worth n weights.now) (zeros (suc K.Kind.places)) }
-    ensures some { result ≡ true → BestOfAll n (allowed sets.now held.now) (arc_worth K.Kind.worth n weights.now) (head_of heads.new) }
-    ensures none { result ≡ false → (head : ℕ → ℕ) → Tree n (allowed sets.now held.now) head → ⊥ }
+) -> Option<[u8; 40]>
+    requires space { SpaceFor graph.now.words (length nodes.old) (length merges.old) (length potentials.old) }
+    requires sound { Sound graph.now.words (stands_in graph.now) (arc_in K.Kind.worth graph.now) (zeros (suc K.Kind.places)) }
+    ensures { MatchOption result (NoTree graph.now.words (stands_in graph.now)) (λ heads. BestOfAll graph.now.words (stands_in graph.now) (arc_in K.Kind.worth graph.now) (head_of heads)) }
 {
-    clear(n, potentials);
-    if !begin(n, sets, held, weights, nodes) {
-        return false;
-    }
-    match grow(n, sets, held, weights, nodes, merges, potentials) {
-        None => false,
-        Some(made) => {
-            open(n, nodes, merges, made, heads);
-            true
-        }
-    }
-}
-
-// The weight of the arcs from the words' heads, over the root layer.
-pub(crate) fn tree_weight<K: Kind + Copy>(n: usize, weights: &[K], heads: &[u8]) -> Root<K>
-    requires room { (n ≤ 40) × ((n * (n + 1) ≤ length weights.now) × (n ≤ length heads.now)) }
-    requires arcs { (((w : ℕ) → Word n w → head_of heads.now w ≤ n)) × (((w : ℕ) → Word n w → Within (2 ^ 20) (arc_worth K.Kind.worth n weights.now (head_of heads.now w) w))) }
-    ensures { root_worth K.Kind.worth result ≡ plus (zeros (suc K.Kind.places)) (tree_worth (arc_worth K.Kind.worth n weights.now) (head_of heads.now) n) }
-{
-    let mut sum: Root<K> = <Root<_> as Kind>::nothing();
-    for word in 1..n + 1 {
-        let from = heads[word - 1] as usize;
-        let next = arc(n, weights, from, word);
-        sum = sum.sum(&next);
-    }
-    sum
+    clear(graph.words, potentials);
+    begin(graph, nodes)?;
+    let made = grow(graph, nodes, merges, potentials)?;
+    let family = Family {
+        words: graph.words,
+        nodes,
+        made: &merges[..made],
+    };
+    let mut heads = [0; 40];
+    open(&family, &mut heads);
+    Some(heads)
 }

@@ -1,4 +1,4 @@
-use Rattle.std.proofs.Common.{◌≡◌, ℕ, suc, ◌≤◌, Bool, length, get_or, take, drop, pos, negsuc, sym, refl, ap, ◌∙◌, arith}
+use Rattle.std.proofs.Common.{◌≡◌, ℕ, suc, ◌≤◌, Bool, List, length, get_or, take, drop, pos, negsuc, sym, refl, ap, ◌∙◌, arith}
 use Rattle.std.proofs.lemmas.List.{length-take-le}
 use Rattle.std.proofs.lemmas.Int.{ints}
 use Rattle.weight.specs.Worth.{Worth}
@@ -6,7 +6,7 @@ use Rattle.weight.specs.Layers.{root_worth}
 use Rattle.tree.specs.Chains.{head_of}
 use Rattle.arborescence.specs.Search.{tree_worth}
 use Rattle.search.specs.Arcs.{allowed, weight_at, arc_worth}
-use Rattle.search.proofs.Finds.{arc_length, sound, total_is, no_tree, several, the_heaviest, front_head}
+use Rattle.search.proofs.Finds.{arc_length, sound, total_is, no_tree, several, the_heaviest, front_head, new_front}
 use Rattle.search.proofs.best_tree.Goals as goal
 
 pub heaviest-requires : goal.heaviest-requires
@@ -14,26 +14,25 @@ heaviest-requires g c =
     let W = g.K.Kind in
     let k = c.in_ok-check.ensures in
     record {
-      few = k.0.1;
-      room = k.1;
-      out = k.0.1;
+      space = record { nodes_in = k.1.nodes_in; merges_in = k.1.merges_in; potentials_in = k.1.potentials_in };
       sound = sound W.worth W.places W.sized c.args.words c.args.weights.now k.1.weights_in W.ranges W.ranged.1 (allowed c.args.sets.now c.args.held.now) c.if-not-all_entries.ensures;
     }
 
-pub returns-then-not-heaviest-clause-told : goal.returns-then-not-heaviest-clause-told
-returns-then-not-heaviest-clause-told g c =
+pub returns-in_default-clause-told : goal.returns-in_default-clause-told
+returns-in_default-clause-told g c =
     let k = c.in_ok-check.ensures in
-    (k.0, k.1, k.2, refl, λ _. no_tree c.args.words (allowed c.args.sets.now c.args.held.now) (c.heaviest.ensures.none c.if-not-heaviest.true))
+    (k.0, k.1, k.2, refl, λ _. no_tree c.args.words (allowed c.args.sets.now c.args.held.now) c.in_default.ensures)
 
 pub tree_weight-total-requires : goal.tree_weight-total-requires
 tree_weight-total-requires g c =
     let W = g.K.Kind in
     let k = c.in_ok-check.ensures in
-    let best = (c.heaviest.ensures.some c.if-not-heaviest.false).0 in
+    let tree = c.in-Some.ensures.0 in
     let s = sound W.worth W.places W.sized c.args.words c.args.weights.now k.1.weights_in W.ranges W.ranged.1 (allowed c.args.sets.now c.args.held.now) c.if-not-all_entries.ensures in
     record {
-      room = (k.0.1, (k.1.weights_in, omega (arith, c.heaviest.auto.heads, k.0.1)));
-      arcs = (best.in_line, λ w v. s.small (head_of c.heaviest.new.heads w) w v (best.in_line w v) (best.standing w v));
+      room = omega (arith, k.0.1);
+      in_line = tree.in_line;
+      small = λ w v. s.small (head_of c.in-Some.found w) w v (tree.in_line w v) (tree.standing w v);
     }
 
 pub returns-then-place-clause-told : goal.returns-then-place-clause-told
@@ -43,8 +42,8 @@ returns-then-place-clause-told g c =
     let k = c.in_ok-check.ensures in
     let stands : ℕ → ℕ → Bool = allowed c.args.sets.now c.args.held.now in
     let worth : ℕ → ℕ → Worth = weight_at W.worth n c.args.weights.now in
-    let head : ℕ → ℕ = head_of c.heaviest.new.heads in
-    let best = c.heaviest.ensures.some c.if-not-heaviest.false in
+    let head : ℕ → ℕ = head_of c.in-Some.found in
+    let best = c.in-Some.ensures in
     let whole = total_is (arc_worth W.worth n c.args.weights.now) head (suc W.places) n k.0.0 (λ w v. arc_length W.worth W.places W.sized n c.args.weights.now k.1.weights_in (head w) w v (best.0.in_line w v)) in
     let total : root_worth W.worth c.tree_weight-total.result ≡ tree_worth (arc_worth W.worth n c.args.weights.now) head n = c.tree_weight-total.ensures ∙ whole in (
       k.0,
@@ -62,18 +61,19 @@ returns-clause-told g c =
     let k = c.in_ok-check.ensures in
     let stands : ℕ → ℕ → Bool = allowed c.args.sets.now c.args.held.now in
     let worth : ℕ → ℕ → Worth = weight_at W.worth n c.args.weights.now in
-    let head : ℕ → ℕ = head_of c.heaviest.new.heads in
-    let best = c.heaviest.ensures.some c.if-not-heaviest.false in
+    let head : ℕ → ℕ = head_of c.in-Some.found in
+    let best = c.in-Some.ensures in
     let whole = total_is (arc_worth W.worth n c.args.weights.now) head (suc W.places) n k.0.0 (λ w v. arc_length W.worth W.places W.sized n c.args.weights.now k.1.weights_in (head w) w v (best.0.in_line w v)) in
     let total : root_worth W.worth c.tree_weight-total.result ≡ tree_worth (arc_worth W.worth n c.args.weights.now) head n = c.tree_weight-total.ensures ∙ whole in
     let here : c.place.result ≡ negsuc 0 = omega (arith, ints, c.if-place.false) in
     let front = sym (ap (λ (x : Worth). get_or x 0 (pos 0)) total) ∙ (sym c.place.ensures ∙ here) in
-    let long : n ≤ length c.hand_out.new.heads = omega (arith, k.2, c.hand_out.auto.heads) in (
+    let new = c.copy_from_slice.new.self in
+    let e : new ≡ take n c.in-Some.found = c.copy_from_slice.ensures.after in
+    let long : length new ≡ n = ap length e ∙ length-take-le n c.in-Some.found (omega (arith, k.0.1)) in
+    let parts = new_front n new (drop n c.args.heads.now) long in (
       k.0,
       k.1,
       k.2,
-      c.hand_out.ensures.rest,
-      λ _.
-          the_heaviest n k.0.0 stands worth head best W.worth c.weight.result (take n c.hand_out.new.heads) (length-take-le n c.hand_out.new.heads long)
-          (λ w v. front_head n c.hand_out.new.heads w v ∙ c.hand_out.ensures.front w v) front (c.weight.ensures ∙ ap (drop 1) total),
+      parts.1,
+      λ _. rw parts.0 (the_heaviest n k.0.0 stands worth head best W.worth c.weight.result new long (λ w v. ap (λ (xs : List ℕ). head_of xs w) e ∙ front_head n c.in-Some.found w v) front (c.weight.ensures ∙ ap (drop 1) total)),
     )

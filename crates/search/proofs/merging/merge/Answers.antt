@@ -1,80 +1,91 @@
-use Rattle.std.proofs.Common.{◌+◌, ◌^◌, ◌<◌, ◌&&◌, length, sym, refl, subst, arith}
-use Rattle.std.proofs.lemmas.Bool.{false≢true}
+use Rattle.std.proofs.Common.{◌≡◌, ℕ, ◌+◌, ◌^◌, ◌<◌, ◌≤◌, ◌&&◌, None, List, length, map, reverse, take, sym, refl, subst, arith, rules}
 use Rattle.weight.specs.Worth.{Within}
 use Rattle.arborescence.specs.Search.{leads}
 use Rattle.word_set.specs.Bits.{in_set}
 use Rattle.weight.specs.Layers.{root_worth}
-use Rattle.search.specs.Arcs.{allowed, arc_worth}
-use Rattle.search.specs.Family.{rep_of}
-use Rattle.search.specs.State.{group_at, family, State}
-use Rattle.search.proofs.Steps.{state_laid, state_value, state_added, state_all, state_room, none_after, new_added, state_after}
+use Rattle.search.specs.Arcs.{stands_in, arc_in}
+use Rattle.search.specs.Family.{Group, rep_of, from_of}
+use Rattle.search.specs.Ring.{Periodic}
+use Rattle.search.specs.State.{view, group_at}
+use Rattle.search.proofs.Records.{family_made}
+use Rattle.search.proofs.Steps.{known, length_made, new_added, state_after}
 use Rattle.search.proofs.merging.merge.Goals as goal
+
+pub ring_members-members-requires : goal.ring_members-members-requires
+ring_members-members-requires g c =
+    let W = g.K.Kind in
+    let s = c.requires.space in
+    let le : c.args.made ≤ length c.args.merges.now = omega (arith, s.merges_in, c.requires.made) in
+    let is = family_made W.worth c.args.merges.now c.args.made le in
+    let k = known W.worth W.places W.sized c.args.graph.now.words c.args.graph.now.few (stands_in c.args.graph.now) (arc_in W.worth c.args.graph.now) c.requires.sound c.args.nodes.now c.args.merges.now c.args.potentials.now c.args.made s.potentials_in c.requires.state _ is in
+    record { word = c.requires.word; laid = k.laid; ring = subst (λ (ms : List Group). Periodic (from_of (group_at W.worth c.args.nodes.now) ms) c.args.word) is c.requires.ring }
 
 pub total-all-requires : goal.total-all-requires
 total-all-requires g c =
     let W = g.K.Kind in
-    let s = c.requires.room in
-    let room = state_room W.worth W.places W.sized c.args.n c.requires.few (allowed c.args.sets.now c.args.held.now) (arc_worth W.worth c.args.n c.args.weights.now) c.requires.sound c.args.nodes.now c.args.merges.now c.args.potentials.now c.args.made s.potentials_in c.requires.state c.args.members c.requires.ring in (record {
-      sizes = (c.requires.few, ((s.nodes_in, omega (arith, room, s.merges_in)), omega (arith, room, c.requires.few)));
-      laid = (
-        state_laid W.worth W.places W.sized c.args.n c.requires.few (allowed c.args.sets.now c.args.held.now) (arc_worth W.worth c.args.n c.args.weights.now) c.requires.sound c.args.nodes.now c.args.merges.now c.args.potentials.now c.args.made s.potentials_in c.requires.state,
-        state_value W.worth W.places W.sized c.args.n c.requires.few (allowed c.args.sets.now c.args.held.now) (arc_worth W.worth c.args.n c.args.weights.now) c.requires.sound c.args.nodes.now c.args.merges.now c.args.potentials.now c.args.made s.potentials_in c.requires.state,
-      );
-    })
+    let s = c.requires.space in
+    let le : c.args.made ≤ length c.args.merges.now = omega (arith, s.merges_in, c.requires.made) in
+    let is = family_made W.worth c.args.merges.now c.args.made le in
+    let k = known W.worth W.places W.sized c.args.graph.now.words c.args.graph.now.few (stands_in c.args.graph.now) (arc_in W.worth c.args.graph.now) c.requires.sound c.args.nodes.now c.args.merges.now c.args.potentials.now c.args.made s.potentials_in c.requires.state _ is in
+    record { laid = k.laid; small = k.value }
 
 pub raise-requires : goal.raise-requires
 raise-requires g c =
     let W = g.K.Kind in
-    let s = c.requires.room in
-    let room = state_room W.worth W.places W.sized c.args.n c.requires.few (allowed c.args.sets.now c.args.held.now) (arc_worth W.worth c.args.n c.args.weights.now) c.requires.sound c.args.nodes.now c.args.merges.now c.args.potentials.now c.args.made s.potentials_in c.requires.state c.args.members c.requires.ring in (record {
-      sizes = (c.requires.few, ((s.nodes_in, omega (arith, room, s.merges_in)), (omega (arith, room, c.requires.few), s.potentials_in)));
-      small = (
-        state_value W.worth W.places W.sized c.args.n c.requires.few (allowed c.args.sets.now c.args.held.now) (arc_worth W.worth c.args.n c.args.weights.now) c.requires.sound c.args.nodes.now c.args.merges.now c.args.potentials.now c.args.made s.potentials_in c.requires.state,
-        (
-          state_added W.worth W.places W.sized c.args.n c.requires.few (allowed c.args.sets.now c.args.held.now) (arc_worth W.worth c.args.n c.args.weights.now) c.requires.sound c.args.nodes.now c.args.merges.now c.args.potentials.now c.args.made s.potentials_in c.requires.state,
-          subst (Within (2 ^ 32)) (sym c.total-all.ensures) (state_all W.worth W.places W.sized c.args.n c.requires.few (allowed c.args.sets.now c.args.held.now) (arc_worth W.worth c.args.n c.args.weights.now) c.requires.sound c.args.nodes.now c.args.merges.now c.args.potentials.now c.args.made s.potentials_in c.requires.state
-              (λ ℓ. leads (rep_of (family (group_at W.worth c.args.merges.now) c.args.made)) ℓ && in_set c.args.members ℓ)),
-        ),
-      );
-    })
+    let s = c.requires.space in
+    let le : c.args.made ≤ length c.args.merges.now = omega (arith, s.merges_in, c.requires.made) in
+    let is = family_made W.worth c.args.merges.now c.args.made le in
+    let k = known W.worth W.places W.sized c.args.graph.now.words c.args.graph.now.few (stands_in c.args.graph.now) (arc_in W.worth c.args.graph.now) c.requires.sound c.args.nodes.now c.args.merges.now c.args.potentials.now c.args.made s.potentials_in c.requires.state _ is in
+    record { room = s.potentials_in; values = k.value; added = k.added; total = subst (Within (2 ^ 32)) (sym c.total-all.ensures) (k.all (λ ℓ. leads (rep_of (map (view W.worth) (reverse (take c.args.made c.args.merges.now)))) ℓ && in_set c.ring_members-members.result ℓ)) }
 
-pub best_into-requires : goal.best_into-requires
-best_into-requires g c =
+pub best_into-requires-clause-added : goal.best_into-requires-clause-added
+best_into-requires-clause-added g c =
     let W = g.K.Kind in
-    let s = c.requires.room in
-    record {
-      room = (c.requires.few, (s.sets_in, (s.weights_in, omega (arith, c.raise.auto.potentials, s.potentials_in))));
-      small = (c.requires.sound.small, new_added W.worth W.places W.sized c.args.n c.requires.few (allowed c.args.sets.now c.args.held.now) (arc_worth W.worth c.args.n c.args.weights.now) c.requires.sound c.args.nodes.now c.args.merges.now c.args.potentials.now c.args.made s.potentials_in c.requires.state c.args.members c.requires.ring (root_worth W.worth c.total-all.result) c.raise.new.potentials c.total-all.ensures c.raise.ensures);
-    }
+    let s = c.requires.space in
+    let le : c.args.made ≤ length c.args.merges.now = omega (arith, s.merges_in, c.requires.made) in
+    let is = family_made W.worth c.args.merges.now c.args.made le in
+    new_added W.worth W.places W.sized c.args.graph.now.words c.args.graph.now.few (stands_in c.args.graph.now) (arc_in W.worth c.args.graph.now) c.requires.sound c.args.nodes.now c.args.merges.now c.args.potentials.now c.args.made s.potentials_in c.requires.state _ is c.ring_members-members.result c.ring_members-members.ensures (root_worth W.worth c.total-all.result) c.raise.new.potentials c.total-all.ensures c.raise.ensures
 
-pub place-requires : goal.place-requires
-place-requires g c =
+pub returns-in_err-arc : goal.returns-in_err-arc
+returns-in_err-arc g c =
     let W = g.K.Kind in
-    let s = c.requires.room in
-    let room = state_room W.worth W.places W.sized c.args.n c.requires.few (allowed c.args.sets.now c.args.held.now) (arc_worth W.worth c.args.n c.args.weights.now) c.requires.sound c.args.nodes.now c.args.merges.now c.args.potentials.now c.args.made s.potentials_in c.requires.state c.args.members c.requires.ring in
-    omega (arith, room, s.merges_in)
+    let s = c.requires.space in
+    let le : c.args.made ≤ length c.args.merges.now = omega (arith, s.merges_in, c.requires.made) in
+    let is = family_made W.worth c.args.merges.now c.args.made le in
+    let k = known W.worth W.places W.sized c.args.graph.now.words c.args.graph.now.few (stands_in c.args.graph.now) (arc_in W.worth c.args.graph.now) c.requires.sound c.args.nodes.now c.args.merges.now c.args.potentials.now c.args.made s.potentials_in c.requires.state _ is in
+    let room : c.args.made + 2 ≤ c.args.graph.now.words = omega (arith, length_made W.worth W.places W.sized c.args.graph.now.words c.args.graph.now.few (stands_in c.args.graph.now) (arc_in W.worth c.args.graph.now) c.requires.sound c.args.nodes.now c.args.merges.now c.args.potentials.now c.args.made s.potentials_in c.requires.state _ is, k.room c.ring_members-members.result c.ring_members-members.ensures) in
+    let e : c.from_residual.result ≡ None = search rules in
+    record { room = room; merged = rw e (k.none c.ring_members-members.result c.ring_members-members.ensures c.in_err-arc.ensures) }
 
-pub returns-in-None : goal.returns-in-None
-returns-in-None g c =
+pub offset_bounds-merges-made : goal.offset_bounds-merges-made
+offset_bounds-merges-made g c =
     let W = g.K.Kind in
-    let s = c.requires.room in
-    record {
-      room = state_room W.worth W.places W.sized c.args.n c.requires.few (allowed c.args.sets.now c.args.held.now) (arc_worth W.worth c.args.n c.args.weights.now) c.requires.sound c.args.nodes.now c.args.merges.now c.args.potentials.now c.args.made s.potentials_in c.requires.state c.args.members c.requires.ring;
-      more = λ e. absurd (false≢true e);
-      none = λ _. none_after W.worth W.places W.sized c.args.n c.requires.few (allowed c.args.sets.now c.args.held.now) (arc_worth W.worth c.args.n c.args.weights.now) c.requires.sound c.args.nodes.now c.args.merges.now c.args.potentials.now c.args.made s.potentials_in c.requires.state c.args.members c.requires.ring c.in-None.ensures;
-    }
-
-pub returns-in-Some : goal.returns-in-Some
-returns-in-Some g c =
-    let W = g.K.Kind in
-    let s = c.requires.room in
-    let room = state_room W.worth W.places W.sized c.args.n c.requires.few (allowed c.args.sets.now c.args.held.now) (arc_worth W.worth c.args.n c.args.weights.now) c.requires.sound c.args.nodes.now c.args.merges.now c.args.potentials.now c.args.made s.potentials_in c.requires.state c.args.members c.requires.ring in
+    let s = c.requires.space in
+    let le : c.args.made ≤ length c.args.merges.now = omega (arith, s.merges_in, c.requires.made) in
+    let is = family_made W.worth c.args.merges.now c.args.made le in
+    let k = known W.worth W.places W.sized c.args.graph.now.words c.args.graph.now.few (stands_in c.args.graph.now) (arc_in W.worth c.args.graph.now) c.requires.sound c.args.nodes.now c.args.merges.now c.args.potentials.now c.args.made s.potentials_in c.requires.state _ is in
+    let room : c.args.made + 2 ≤ c.args.graph.now.words = omega (arith, length_made W.worth W.places W.sized c.args.graph.now.words c.args.graph.now.few (stands_in c.args.graph.now) (arc_in W.worth c.args.graph.now) c.requires.sound c.args.nodes.now c.args.merges.now c.args.potentials.now c.args.made s.potentials_in c.requires.state _ is, k.room c.ring_members-members.result c.ring_members-members.ensures) in
     let l : c.args.made < length c.args.merges.now = omega (arith, room, s.merges_in) in
-    record {
-      room = room;
-      more = λ _.
-          subst (λ ms. State W.worth W.places c.args.n (allowed c.args.sets.now c.args.held.now) (arc_worth W.worth c.args.n c.args.weights.now) c.args.nodes.now ms c.raise.new.potentials (c.args.made + 1)) (sym c.place.ensures)
-          (state_after W.worth W.places W.sized c.args.n c.requires.few (allowed c.args.sets.now c.args.held.now) (arc_worth W.worth c.args.n c.args.weights.now) c.requires.sound c.args.nodes.now c.args.merges.now c.args.potentials.now c.args.made s.potentials_in c.requires.state c.args.members c.requires.ring
-          (root_worth W.worth c.total-all.result) c.raise.new.potentials c.total-all.ensures c.raise.ensures c.in-Some.arc _ l refl c.in-Some.ensures);
-      none = λ e. absurd (false≢true (sym e));
-    }
+    search (rules, l)
+
+pub bounds-merges-made : goal.bounds-merges-made
+bounds-merges-made g c =
+    let W = g.K.Kind in
+    let s = c.requires.space in
+    let le : c.args.made ≤ length c.args.merges.now = omega (arith, s.merges_in, c.requires.made) in
+    let is = family_made W.worth c.args.merges.now c.args.made le in
+    let k = known W.worth W.places W.sized c.args.graph.now.words c.args.graph.now.few (stands_in c.args.graph.now) (arc_in W.worth c.args.graph.now) c.requires.sound c.args.nodes.now c.args.merges.now c.args.potentials.now c.args.made s.potentials_in c.requires.state _ is in
+    let room : c.args.made + 2 ≤ c.args.graph.now.words = omega (arith, length_made W.worth W.places W.sized c.args.graph.now.words c.args.graph.now.few (stands_in c.args.graph.now) (arc_in W.worth c.args.graph.now) c.requires.sound c.args.nodes.now c.args.merges.now c.args.potentials.now c.args.made s.potentials_in c.requires.state _ is, k.room c.ring_members-members.result c.ring_members-members.ensures) in
+    let l : c.args.made < length c.args.merges.now = omega (arith, room, s.merges_in) in
+    l
+
+pub returns : goal.returns
+returns g c =
+    let W = g.K.Kind in
+    let s = c.requires.space in
+    let le : c.args.made ≤ length c.args.merges.now = omega (arith, s.merges_in, c.requires.made) in
+    let is = family_made W.worth c.args.merges.now c.args.made le in
+    let k = known W.worth W.places W.sized c.args.graph.now.words c.args.graph.now.few (stands_in c.args.graph.now) (arc_in W.worth c.args.graph.now) c.requires.sound c.args.nodes.now c.args.merges.now c.args.potentials.now c.args.made s.potentials_in c.requires.state _ is in
+    let room : c.args.made + 2 ≤ c.args.graph.now.words = omega (arith, length_made W.worth W.places W.sized c.args.graph.now.words c.args.graph.now.few (stands_in c.args.graph.now) (arc_in W.worth c.args.graph.now) c.requires.sound c.args.nodes.now c.args.merges.now c.args.potentials.now c.args.made s.potentials_in c.requires.state _ is, k.room c.ring_members-members.result c.ring_members-members.ensures) in
+    let l : c.args.made < length c.args.merges.now = omega (arith, room, s.merges_in) in
+    record { room = room; merged = state_after W.worth W.places W.sized c.args.graph.now.words c.args.graph.now.few (stands_in c.args.graph.now) (arc_in W.worth c.args.graph.now) c.requires.sound c.args.nodes.now c.args.merges.now c.args.potentials.now c.args.made s.potentials_in c.requires.state _ is c.ring_members-members.result c.ring_members-members.ensures (root_worth W.worth c.total-all.result) c.raise.new.potentials c.total-all.ensures c.raise.ensures _ l refl c.in_ok-arc.ensures }

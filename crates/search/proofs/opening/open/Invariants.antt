@@ -1,19 +1,12 @@
-use Rattle.std.proofs.Common.{ℕ, suc, ◌≤◌, Bool}
-use Rattle.weight.specs.Worth.{Worth, zeros}
+use Rattle.std.proofs.Common.{map, reverse}
+use Rattle.std.specs.Iterator.Adapters.{rev_source}
+use Rattle.std.specs.Slice.Iter.{iter_rest}
 use Rattle.tree.specs.Chains.{head_of}
-use Rattle.arborescence.specs.Sum.{sum_if}
-use Rattle.arborescence.specs.Search.{leads}
-use Rattle.search.specs.Family.{rep_of, best_of}
-use Rattle.search.specs.State.{group_at, family}
-use Rattle.search.specs.Opening.{Opened, Ended}
+use Rattle.search.specs.State.{view, base_in, sets_in}
+use Rattle.search.proofs.Heads.{Left}
 use Rattle.search.proofs.opening.open.Given as goal
 
-abbrev pub invariant-loop-left : goal.invariant-loop-left
-invariant-loop-left g l =
-    (l.left ≤ l.made)
-    × ((stands : ℕ → ℕ → Bool) (worth : ℕ → ℕ → Worth) → Ended g.K.Kind.places l.n stands worth (group_at g.K.Kind.worth l.nodes) (group_at g.K.Kind.worth l.merges) l.made →
-    Opened l.n stands worth (zeros (suc g.K.Kind.places)) (group_at g.K.Kind.worth l.nodes) (family (group_at g.K.Kind.worth l.merges) l.left)
-    (sum_if (leads (rep_of (family (group_at g.K.Kind.worth l.merges) l.made))) (best_of (group_at g.K.Kind.worth l.nodes) (family (group_at g.K.Kind.worth l.merges) l.made)) l.n) l.done (head_of l.heads))
-
-abbrev pub decreases-loop-left : goal.decreases-loop-left
-decreases-loop-left g l = l.left
+abbrev pub invariant-loop-node : goal.invariant-loop-node
+invariant-loop-node g l =
+    let f = g.K.Kind.worth in
+    Left g.K.Kind.places l.family.words (base_in f l.family) (sets_in f l.family) (map (view f) (reverse (iter_rest (rev_source l.node-iterator)))) l.done (head_of l.heads)

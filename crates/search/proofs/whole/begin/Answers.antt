@@ -1,69 +1,68 @@
-use Rattle.std.proofs.Common.{ℕ, suc, ◌+◌, ◌<◌, Bool, length, sym, ap, ◌∙◌, subst, arith}
-use Rattle.std.proofs.lemmas.Bool.{false≢true}
+use Rattle.std.proofs.Common.{◌≡◌, ℕ, suc, ◌+◌, ◌<◌, Bool, length, length-set, sym, ap, ◌∙◌, subst, arith, rules}
 use Rattle.weight.specs.Worth.{Worth, zeros}
 use Rattle.weight.specs.Layers.{root_worth}
 use Rattle.tree.specs.Chains.{Word}
-use Rattle.search.specs.Arcs.{allowed, arc_worth}
+use Rattle.search.specs.Arcs.{stands_in, arc_in}
 use Rattle.search.specs.Family.{Group}
-use Rattle.search.specs.State.{group_at, BegunTo}
+use Rattle.search.specs.State.{group_at}
 use Rattle.search.proofs.Scan.{free_arc}
 use Rattle.search.proofs.Steps.{group_set_same}
 use Rattle.search.proofs.Begins.{begin_none, begin_some, begin_more, begin_done}
 use Rattle.search.proofs.whole.begin.Goals as goal
 
-pub loop-word-init : goal.loop-word-init
-loop-word-init g c =
+pub loop-to-init : goal.loop-to-init
+loop-to-init g c =
     let f = g.K.Kind.worth in
     let l : 0 < length c.args.nodes.now = omega (arith, c.requires.room) in
-    let e = ap (λ xs. group_at f xs 0) c.place.ensures ∙ group_set_same f c.args.nodes.now 0 _ l in
+    let e = group_set_same f c.args.nodes.now 0 _ l in
     (ap (λ (x : Group). x.to) e, ap (λ (x : Group). x.from) e, λ w v lt. absurd (omega (arith, v.0)))
 
 pub best_head-requires : goal.best_head-requires
 best_head-requires g c =
     let f = g.K.Kind.worth in
-    let n : ℕ = c.args.n in
-    let stands : ℕ → ℕ → Bool = allowed c.args.sets.now c.args.held.now in
-    let v : Word n c.loop-word.word = (c.loop-word.auto.word, omega (arith, c.loop-word-test.true)) in
-    let q = free_arc f (arc_worth f n c.args.weights.now) n stands c.only-members.result c.loop-word.word c.open_heads.result c.without-heads.result c.open_heads.ensures c.without-heads.ensures in
-    (c.requires.room.0, (c.requires.room.1.1.0, (v, λ h t. (q h t).0)))
+    let n : ℕ = c.args.graph.now.words in
+    let v : Word n c.loop-to.to = (c.loop-to.auto.to, omega (arith, c.loop-to-test.true)) in
+    let q = free_arc f (arc_in f c.args.graph.now) n (stands_in c.args.graph.now) c.only-members.result c.loop-to.to c.open_heads.result c.without.result c.open_heads.ensures c.without.ensures in
+    record { to = v; heads = λ h t. (q h t).0 }
 
 pub arc-value-requires : goal.arc-value-requires
 arc-value-requires g c =
     let f = g.K.Kind.worth in
-    let n : ℕ = c.args.n in
-    let stands : ℕ → ℕ → Bool = allowed c.args.sets.now c.args.held.now in
-    let v : Word n c.loop-word.word = (c.loop-word.auto.word, omega (arith, c.loop-word-test.true)) in
-    let q = free_arc f (arc_worth f n c.args.weights.now) n stands c.only-members.result c.loop-word.word c.open_heads.result c.without-heads.result c.open_heads.ensures c.without-heads.ensures in
-    (c.requires.room.0, (c.requires.room.1.1.0, (v, (q c.in-Some.from c.in-Some.ensures.0).0)))
+    let n : ℕ = c.args.graph.now.words in
+    let v : Word n c.loop-to.to = (c.loop-to.auto.to, omega (arith, c.loop-to-test.true)) in
+    let q = free_arc f (arc_in f c.args.graph.now) n (stands_in c.args.graph.now) c.only-members.result c.loop-to.to c.open_heads.result c.without.result c.open_heads.ensures c.without.ensures in
+    record { to = v; from = (q c.in_ok-from.from c.in_ok-from.ensures.0).0 }
 
-pub returns-in-None : goal.returns-in-None
-returns-in-None g c =
+pub returns-in_err-from : goal.returns-in_err-from
+returns-in_err-from g c =
     let f = g.K.Kind.worth in
-    let n : ℕ = c.args.n in
-    let stands : ℕ → ℕ → Bool = allowed c.args.sets.now c.args.held.now in
-    let v : Word n c.loop-word.word = (c.loop-word.auto.word, omega (arith, c.loop-word-test.true)) in
-    record {
-      more = λ e. absurd (false≢true e);
-      none = λ _. begin_none f n stands (arc_worth f n c.args.weights.now) (zeros (suc g.K.Kind.places)) c.loop-word.word c.only-members.result c.open_heads.result c.without-heads.result v c.only-members.ensures c.open_heads.ensures c.without-heads.ensures c.in-None.ensures;
-    }
+    let n : ℕ = c.args.graph.now.words in
+    let v : Word n c.loop-to.to = (c.loop-to.auto.to, omega (arith, c.loop-to-test.true)) in
+    let one = c.only-members.ensures.small (omega (arith, v.1, c.args.graph.now.few)) in
+    rw c.from_residual.ensures
+    (begin_none f n (stands_in c.args.graph.now) (arc_in f c.args.graph.now) (zeros (suc g.K.Kind.places)) c.loop-to.to c.only-members.result c.open_heads.result c.without.result v one c.open_heads.ensures c.without.ensures c.in_err-from.ensures)
 
-pub loop-word-preserved : goal.loop-word-preserved
-loop-word-preserved g c =
+pub offset_bounds-nodes-to : goal.offset_bounds-nodes-to
+offset_bounds-nodes-to g c =
+    let l : c.loop-to.to < length c.args.nodes.now = omega (arith, c.loop-to-test.true, c.requires.room) in
+    search (rules, l)
+
+pub loop-to-preserved : goal.loop-to-preserved
+loop-to-preserved g c =
     let f = g.K.Kind.worth in
-    let n : ℕ = c.args.n in
-    let k : ℕ = c.loop-word.word in
-    let stands : ℕ → ℕ → Bool = allowed c.args.sets.now c.args.held.now in
-    let worth : ℕ → ℕ → Worth = arc_worth f n c.args.weights.now in
+    let n : ℕ = c.args.graph.now.words in
+    let k : ℕ = c.loop-to.to in
+    let stands : ℕ → ℕ → Bool = stands_in c.args.graph.now in
+    let worth : ℕ → ℕ → Worth = arc_in f c.args.graph.now in
     let z : Worth = zeros (suc g.K.Kind.places) in
-    let v : Word n k = (c.loop-word.auto.word, omega (arith, c.loop-word-test.true)) in
-    let l : k < length c.loop-word.nodes = omega (arith, c.loop-word-test.true, c.loop-word.auto.nodes, c.place.auto.merges, c.requires.room) in
-    let b = begin_some f n stands worth z k c.only-members.result c.open_heads.result c.without-heads.result v c.only-members.ensures c.open_heads.ensures c.without-heads.ensures c.requires.sound.whole c.in-Some.from (root_worth f c.arc-value.result) c.arc-value.ensures c.in-Some.ensures in
-    subst (λ ws. BegunTo n stands worth z (group_at f ws) (k + 1)) (sym c.place-in-Some.ensures) (begin_more f n stands worth z c.loop-word.nodes k _ v.0 l b c.loop-word.invariant)
+    let v : Word n k = (c.loop-to.auto.to, omega (arith, c.loop-to-test.true)) in
+    let one = c.only-members.ensures.small (omega (arith, v.1, c.args.graph.now.few)) in
+    let long : length c.loop-to.nodes ≡ length c.args.nodes.now = c.loop-to.auto.nodes ∙ length-set c.args.nodes.now 0 _ in
+    let l : k < length c.loop-to.nodes = omega (arith, c.loop-to-test.true, c.requires.room) in
+    let b = begin_some f n stands worth z k c.only-members.result c.open_heads.result c.without.result v one c.open_heads.ensures c.without.ensures c.requires.sound.whole c.in_ok-from.from (root_worth f c.arc-value.result) c.arc-value.ensures c.in_ok-from.ensures in
+    begin_more f n stands worth z c.loop-to.nodes k _ v.0 l b c.loop-to.invariant
 
 pub returns : goal.returns
 returns g c =
     let f = g.K.Kind.worth in
-    record {
-      more = λ _. begin_done f c.args.n (allowed c.args.sets.now c.args.held.now) (arc_worth f c.args.n c.args.weights.now) (zeros (suc g.K.Kind.places)) (group_at f c.loop-word.nodes) c.loop-word.word (omega (arith, c.loop-word-test.false)) c.loop-word.invariant;
-      none = λ e. absurd (false≢true (sym e));
-    }
+    begin_done f c.args.graph.now.words (stands_in c.args.graph.now) (arc_in f c.args.graph.now) (zeros (suc g.K.Kind.places)) (group_at f c.loop-to.nodes) c.loop-to.to (omega (arith, c.loop-to-test.false)) c.loop-to.invariant

@@ -9,9 +9,8 @@ pub loop-word-preserved : goal.loop-word-preserved
 loop-word-preserved g c w lt =
     let f = g.K.Kind.worth in
     let k = c.loop-word.word in
-    let l : k < length c.loop-word.potentials = omega (arith, c.loop-word-test.true, c.loop-word.auto.potentials, c.requires.1) in
-    let e = ap (λ xs. potential f xs w) c.store.ensures in
+    let l : k < length c.loop-word.potentials = omega (arith, c.loop-word-test.true, c.loop-word.auto.potentials, c.requires.room) in
     elim (cases_eq w k) [
-      | inl q ↦ e ∙ (ap (potential f _) q ∙ (at_set_same (root_worth f) c.loop-word.potentials k c.nothing-nothing.result l ∙ c.nothing-nothing.ensures))
-      | inr q ↦ e ∙ (at_set_other (root_worth f) c.loop-word.potentials k w c.nothing-nothing.result q ∙ c.loop-word.invariant w (omega arith))
+      | inl q ↦ ap (potential f _) q ∙ (at_set_same (root_worth f) c.loop-word.potentials k c.nothing.result l ∙ c.nothing.ensures)
+      | inr q ↦ at_set_other (root_worth f) c.loop-word.potentials k w c.nothing.result q ∙ c.loop-word.invariant w (omega arith)
     ]

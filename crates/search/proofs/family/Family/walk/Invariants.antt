@@ -1,0 +1,12 @@
+use Rattle.std.proofs.Common.{◌≡◌, ◌≤◌, true, ◌⊎◌}
+use Rattle.word_set.specs.Bits.{in_set}
+use Rattle.search.specs.State.{head_in}
+use Rattle.search.proofs.Records.{Leads}
+use Rattle.search.proofs.Counts.{missing}
+use Rattle.search.proofs.family.Family.walk.Given as goal
+
+abbrev pub invariant-steps : goal.invariant-steps
+invariant-steps g l = (l.word ≤ l.self.words) × Leads (head_in g.K.Kind.worth l.self) l.seen l.word × ((l.word ≡ l.start) ⊎ (in_set l.seen l.start ≡ true))
+
+abbrev pub decreases-steps : goal.decreases-steps
+decreases-steps g l = missing l.self.words l.seen
