@@ -4,9 +4,9 @@ use Rattle.sheet.specs.Candidates.{cell, outranking}
 use Rattle.sheet.specs.declared.Candidate.{Candidate}
 use Rattle.cells.specs.Accounts.{Accounted, Next}
 use Rattle.queue.specs.Heap.{Ordered}
-use Rattle.ranking.specs.Calls.{lengths_of, passes_unless, take_check, SameBeyond, Took}
+use Rattle.ranking.specs.Calls.{lengths_of, take_check, SameBeyond, Took}
 use Rattle.ranking.specs.Memory.{Memory, HoldsArcs, HoldsTrees, StandsFor, Waits}
-use Rattle.ranking.specs.Steps.{Comes}
+use Rattle.ranking.specs.Steps.{Comes, RoomFor}
 use Rattle.ranking.specs.Takes.{HandedOut, Tells}
 use Rattle.ranking.specs.Trees.{TreeOf, tree_worth}
 use Rattle.ranking.specs.declared.state.Ranking.{Ranking}
@@ -16,7 +16,7 @@ use Rattle.refusal.specs.declared.Refusal.{Refusal}
 use Rattle.sheet.proofs.Lists.{nth_set_same}
 use Rattle.sheet.proofs.Tables.{passes, last_passes}
 use Rattle.sheet.specs.Arcs.{Arcs}
-use Rattle.sheet.specs.Calls.{or_else, refuse_if, too_short}
+use Rattle.sheet.specs.Calls.{or_else, refuse_if, checked, too_short}
 use Rattle.sheet.specs.declared.Lengths.{Lengths}
 use Rattle.std.proofs.lemmas.List.{take-set-le}
 use Rattle.std.proofs.lemmas.Bool.{cases_eq, ltb-false, le-ltb, or_parts, eqb-false, eqb-true}
@@ -24,23 +24,12 @@ use Rattle.weight.proofs.Worths.{outweighs_not}
 use Rattle.weight.specs.Range.{Range}
 use Rattle.weight.specs.Worth.{Worth}
 
--- what is known where no check fails
-pub record RoomFor (n : ℕ) (l : Lengths) (space taken : ℕ) : Type 0 where
-  pub weights : n * (n + 1) ≤ l.weights
-  pub sets : n ≤ l.sets
-  pub candidates : 51 ≤ l.candidates
-  pub nodes : n + 1 ≤ l.nodes
-  pub merges : n - 1 ≤ l.merges
-  pub potentials : n + 1 ≤ l.potentials
-  pub space_in : n ≤ space
-  pub left : taken ≡ 50 → ⊥
-
 -- a call that went on passed its check, and one that did not was refused by it
-pub passed : (o : Option Refusal) (u : Unit {0}) → Ok u ≡ passes_unless o → o ≡ None
+pub passed : (o : Option Refusal) (u : Unit {0}) → Ok u ≡ checked o → o ≡ None
 passed None u e = refl
 passed (Some why) u e = cc
 
-pub stopped : (o : Option Refusal) (e : Refusal) → Err e ≡ passes_unless o → o ≡ Some e
+pub stopped : (o : Option Refusal) (e : Refusal) → Err e ≡ checked o → o ≡ Some e
 stopped None e q = cc
 stopped (Some why) e q = cc
 
@@ -136,7 +125,7 @@ module _ {K : Type 0} (worth : K → Worth) (ranges : List Range) where
         where
           by : (ranking.taken ≡ 50) ⊎ (ranking.taken ≡ 50 → ⊥) → (ranking.taken ≡ 50 → ⊥) → length ts < 50
           by (inl e) left = absurd (left e)
-          by (inr e) left = omega (arith, st.counted, ranking.few.0)
+          by (inr e) left = omega (arith, st.counted, ranking.counted)
 
       holds_still : (arcs : Arcs K) → HoldsArcs worth ranges ranking.sheet.words memory.weights memory.sets arcs → HoldsArcs worth ranges ranking.sheet.words memory'.weights memory'.sets arcs
       holds_still arcs h =

@@ -1,14 +1,15 @@
 // The ranking of a sheet's trees: each take hands out the heaviest that is still untaken, up to fifty.
 #![tactic(auto)]
 
-ghost use Rattle.std.specs.Prelude.{◌≡◌, ℕ, suc, ◌<◌, ◌≤◌, List, [], length};
-ghost use Rattle.ranking.specs.Calls.{passes_unless, take_check, Took};
+ghost use Rattle.std.specs.Prelude.{◌≡◌, ℕ, suc, ◌<◌, ◌≤◌, List, [], length, IfOk};
+ghost use Rattle.ranking.specs.Calls.{take_check, Took};
 ghost use Rattle.ranking.specs.Memory.{Memory, memory_of, HoldsArcs, StandsFor};
-ghost use Rattle.ranking.specs.Steps.{NextTree};
+ghost use Rattle.ranking.specs.Steps.{NextTree, RoomFor};
 ghost use Rattle.ranking.specs.Takes.{FirstIsHeaviest, Settled};
 ghost use Rattle.search.specs.Space.{RoomIn, SameParts};
 ghost use Rattle.search.specs.State.{Room};
 ghost use Rattle.sheet.specs.Arcs.{Arcs};
+ghost use Rattle.sheet.specs.Calls.{checked};
 
 use refusal::Refusal;
 use search::{Node, Working};
@@ -48,7 +49,8 @@ pub fn end<K: Kind>(ranking: Ranking<K>) -> Sheet<K>
 impl<K> Ranking<K> {
     // Whether a take passes the checks that come before a tree is sought.
     fn take_check(&self, lengths: Lengths, space: usize) -> Result<(), Refusal>
-        ensures { result ≡ passes_unless (take_check self.now.sheet.words lengths space self.now.taken) }
+        ensures answer { result ≡ checked (take_check self.now.sheet.words lengths space self.now.taken) }
+        ensures room { IfOk result (λ _. RoomFor self.now.sheet.words lengths space self.now.taken) }
     {
         if self.sheet.too_short(lengths) {
             return Err(Refusal::ShortMemory);
@@ -107,7 +109,8 @@ impl<K: Kind + Copy> Ranking<K> {
         Ok((next, more - 1))
     }
 
-    // The next tree, sought in just so much of the working space as is lent.
+    // The next tree, sought in just so much of the working space as is lent. What lies beyond the slices is untouched by that,
+    // and they come one by one, since no struct is made of parts of slices that lie behind a `&mut`.
     fn next_within(
         &self,
         weights: &[K],

@@ -29,6 +29,7 @@ fn bans<K>(current: &Candidate<K>, word: usize) -> u64
 }
 
 // Keeps a candidate among those that wait; where fifty wait already, one of the lightest is dropped.
+// The slots are lent for one take and the count lives on in the ranking, so a struct of both would be taken apart at each take.
 fn keep<K: Kind + Copy>(candidates: &mut [Candidate<K>], waiting: usize, x: Candidate<K>) -> usize
     requires slots { 50 ≤ length candidates.old }
     requires few { waiting ≤ 50 }
