@@ -137,9 +137,8 @@ impl<K: Kind + Copy> Graph<'_, K> {
         ensures { root_worth K.Kind.worth result ≡ plus (zeros (suc K.Kind.places)) (tree_worth (arc_in K.Kind.worth self.now) (head_of heads.now) self.now.words) }
     {
         let mut sum: Root<K> = <Root<_> as Kind>::nothing();
-        for word in 1..self.words + 1 {
-            let from = heads[word - 1] as usize;
-            let next = self.arc(from, word);
+        for (i, head) in heads[..self.words].iter().enumerate() {
+            let next = self.arc(*head as usize, i + 1);
             sum = sum.sum(&next);
         }
         sum

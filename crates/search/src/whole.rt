@@ -21,8 +21,8 @@ fn clear<K: Kind + Copy>(words: usize, potentials: &mut [Root<K>])
     requires room { words < length potentials.old }
     ensures { (w : ℕ) → w ≤ words → potential K.Kind.worth potentials.new w ≡ zeros (suc K.Kind.places) }
 {
-    for word in 0..words + 1 {
-        potentials[word] = <Root<_> as Kind>::nothing();
+    for potential in &mut potentials[..words + 1] {
+        *potential = <Root<_> as Kind>::nothing();
     }
 }
 

@@ -1,4 +1,4 @@
-use Rattle.std.proofs.Common.{◌≡◌, ℕ, suc, ◌+◌, ◌<◌, Bool, length, length-set, sym, ap, ◌∙◌, subst, arith, rules}
+use Rattle.std.proofs.Common.{◌≡◌, ℕ, suc, ◌<◌, Bool, length, length-set, ap, ◌∙◌, arith, rules}
 use Rattle.weight.specs.Worth.{Worth, zeros}
 use Rattle.weight.specs.Layers.{root_worth}
 use Rattle.tree.specs.Chains.{Word}
