@@ -14,7 +14,7 @@ pub loop-to-init : goal.loop-to-init
 loop-to-init g c =
     let f = g.K.Kind.worth in
     let l : 0 < length c.args.nodes.now = omega (arith, c.requires.room) in
-    let e = group_set_same f c.args.nodes.now 0 _ l in
+    let e = group_set_same f c.args.nodes.now 0 _ l ∙ c.new.ensures in
     (ap (λ (x : Group). x.to) e, ap (λ (x : Group). x.from) e, λ w v lt. absurd (omega (arith, v.0)))
 
 pub best_head-requires : goal.best_head-requires
