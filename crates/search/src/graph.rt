@@ -33,10 +33,10 @@ impl<K: Kind + Copy> Graph<'_, K> {
         ensures { (h : ℕ) → in_set result h ≡ (nat_le h self.now.words && stands_in self.now h word) }
     {
         let heads = both(self.sets[word - 1], line(self.words));
-        if word > self.held.len() {
+        let Some(head) = self.held.get(word - 1) else {
             return heads;
-        }
-        let head = self.held[word - 1] as usize;
+        };
+        let head = *head as usize;
         if head > self.words {
             return 0;
         }
