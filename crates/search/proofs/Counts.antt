@@ -1,6 +1,6 @@
 -- How many words pass a test: the measures of the loops over sets
-use Rattle.std.proofs.Common.{◌≡◌, ℕ, zero, suc, ◌+◌, ◌-◌, ◌<◌, ◌≤◌, Bool, true, false, cond, not, ◌&&◌, ◌||◌, eqb, ◌⊎◌, sym, refl, ap, ◌∙◌, subst, inl, inr, arith}
-use Rattle.std.proofs.lemmas.Bool.{cases_Bool, both_ways, and_from, and_parts, eqb-true, eq-eqb}
+use Rattle.std.proofs.Common.{◌≡◌, ℕ, zero, suc, ◌+◌, ◌<◌, ◌≤◌, Bool, true, false, cond, not, ◌||◌, eqb, ◌⊎◌, sym, refl, ap, ◌∙◌, subst, inl, inr, arith}
+use Rattle.std.proofs.lemmas.Bool.{cases_Bool, both_ways, and_from, eqb-true}
 use Rattle.tree.specs.Chains.{Word}
 use Rattle.arborescence.specs.Sum.{count_if}
 use Rattle.arborescence.proofs.Sums.{count_out}
@@ -45,18 +45,3 @@ or_right false b e = e
 pub missing_less : (n s t r j : ℕ) → Word n j → ((v : ℕ) → in_set r v ≡ (in_set s v || in_set t v)) → in_set s j ≡ false → in_set t j ≡ true → missing n r < missing n s
 missing_less n s t r j v is no-s yes-t =
     count_lt (λ x. not (in_set s x)) (λ x. not (in_set r x)) n j v (ap not no-s) (ap not (is j ∙ or_right (in_set s j) (in_set t j) yes-t)) (λ w u e. or_false (in_set s w) (in_set t w) (ap not (sym (is w)) ∙ e))
-
--- the words that are in a set, the root too
-abbrev pub members : ℕ → ℕ → ℕ
-members n s = count_if (λ v. in_set s (v - 1)) (λ _. 1) (n + 1)
-
-pub members_less : (n s bit r j : ℕ) → j ≤ n → ((v : ℕ) → in_set r v ≡ (in_set s v && not (in_set bit v))) → ((v : ℕ) → in_set bit v ≡ eqb v j) → in_set s j ≡ true → members n r < members n s
-members_less n s bit r j le is one here =
-    let e : j + 1 - 1 ≡ j = omega arith in
-    count_lt (λ v. in_set s (v - 1)) (λ v. in_set r (v - 1)) (n + 1) (j + 1) (omega arith) (ap (in_set s) e ∙ here)
-    (ap (in_set r) e ∙ (is j ∙ gone (in_set s j) (in_set bit j) (one j ∙ eq-eqb j j refl)))
-    (λ w u t. (and_parts (in_set s (w - 1)) (not (in_set bit (w - 1))) (sym (is (w - 1)) ∙ t)).0)
-  where
-    gone : (a b : Bool) → b ≡ true → (a && not b) ≡ false
-    gone true b e = ap not e
-    gone false b e = refl

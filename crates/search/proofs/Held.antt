@@ -1,5 +1,6 @@
 -- The heads of a word that are looked at, where some words are held
-use Rattle.std.proofs.Common.{◌≡◌, ℕ, zero, suc, ◌-◌, ◌<◌, ◌≤◌, Bool, true, false, ◌&&◌, ◌||◌, eqb, ltb, leb, ◌⊎◌, List, length, get_or, sym, refl, ◌∙◌, inl, inr, arith}
+use Rattle.std.proofs.Common.{◌≡◌, ℕ, zero, suc, ◌+◌, ◌-◌, ◌<◌, ◌≤◌, Bool, true, false, ◌&&◌, ◌||◌, eqb, ltb, leb, ◌⊎◌, List, length, get_or, take, sym, refl, ap, ◌∙◌, inl, inr, arith}
+use Rattle.std.proofs.lemmas.List.{get_or-take}
 use Rattle.std.proofs.lemmas.Bool.{cases_Bool, ne_eqb, leb-true}
 use Rattle.std.proofs.lemmas.Bool.Decides.{nat_tests}
 use Rattle.tree.specs.Chains.{head_of}
@@ -10,6 +11,10 @@ use Rattle.word_set.proofs.Sets.{in_set_empty}
 pub head_at : (heads : List ℕ) (w : ℕ) → 1 ≤ w → head_of heads w ≡ get_or heads (w - 1) 0
 head_at heads zero h = absurd (omega arith)
 head_at heads (suc w) h = let e : suc w - 1 ≡ w = omega arith in rw e refl
+
+-- the head of the word at place i, among the first n heads
+pub head_next : (n : ℕ) (heads : List ℕ) (i : ℕ) → i + 1 ≤ n → head_of heads (i + 1) ≡ get_or (take n heads) i 0
+head_next n heads i le = let e : i + 1 - 1 ≡ i = omega arith in head_at heads (i + 1) (omega arith) ∙ (ap (λ (k : ℕ). get_or heads k 0) e ∙ sym (get_or-take n heads i 0 (omega arith)))
 
 -- a head past the line leaves none
 pub held_out : (n : ℕ) (sets held : List ℕ) (h d : ℕ) → 1 ≤ d → d ≤ length held → n < get_or held (d - 1) 0 → in_set 0 h ≡ (leb h n && allowed sets held h d)

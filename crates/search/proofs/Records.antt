@@ -1,6 +1,6 @@
-use Rattle.std.proofs.Common.{◌≡◌, ℕ, zero, suc, ◌+◌, ◌-◌, ◌<◌, ◌≤◌, Bool, true, false, cond, ◌||◌, eqb, ◌⊎◌, List, [], ◌∷◌, ◌++◌, map, reverse, length, get_or, take, take-suc, find, Some, Option, MatchOption, sym, refl, ap, ◌∙◌, subst, inl, inr, arith}
+use Rattle.std.proofs.Common.{◌≡◌, ℕ, zero, suc, ◌+◌, ◌<◌, ◌≤◌, Bool, true, false, cond, ◌||◌, eqb, ◌⊎◌, List, [], ◌∷◌, ◌++◌, map, reverse, length, get_or, take, take-suc, find, Some, Option, MatchOption, sym, refl, ap, ◌∙◌, subst, inl, inr, arith}
 use Rattle.std.proofs.lemmas.List.{get_or-map, reverse-append}
-use Rattle.std.proofs.lemmas.Bool.{cases_lt, cases_Bool, both_ways, cond-true, cond-false, eqb-true, eq-eqb}
+use Rattle.std.proofs.lemmas.Bool.{cases_lt, cases_Bool, both_ways, eqb-true, eq-eqb}
 use Rattle.weight.specs.Worth.{Worth}
 use Rattle.tree.specs.Chains.{up, Reaches}
 use Rattle.tree.proofs.Chains.{up_plus}
@@ -9,13 +9,6 @@ use Rattle.search.specs.declared.family.Node.{Node}
 use Rattle.word_set.specs.Bits.{in_set}
 use Rattle.search.specs.Family.{Group, entry, rep_of, from_of, best_of}
 use Rattle.search.specs.State.{view, blank, group_at, family}
-
-pub node_is : {K : Type 0} (f : K → Worth) (nodes : List (Node K)) (i : ℕ) (x : Node K) → i < length nodes → x ≡ get_or nodes i x → view f x ≡ group_at f nodes i
-node_is f nodes i x l e = ap (view f) e ∙ sym (get_or-map (view f) nodes i x blank l)
-
-pub family_step : (node : ℕ → Group) (j : ℕ) → 0 < j → family node j ≡ node (j - 1) ∷ family node (j - 1)
-family_step node zero h = absurd (omega arith)
-family_step node (suc j) h = let e : suc j - 1 ≡ j = omega arith in rw e refl
 
 -- the sets that were made, the newest first
 pub family_made : {K : Type 0} (f : K → Worth) (xs : List (Node K)) (j : ℕ) → j ≤ length xs → family (group_at f xs) j ≡ map (view f) (reverse (take j xs))
@@ -83,12 +76,6 @@ leads_more h seen bit seen' w w' is one step leads x t = by (cases_Bool (in_set 
     by (inr s) =
         let e : eqb x w ≡ true = sym (one x) ∙ (sym (ap (λ (b : Bool). b || in_set bit x) s) ∙ (sym (is x) ∙ t)) in
         (0, ap h (eqb-true x w e) ∙ sym step)
-
-pub top_here : (base node : ℕ → Group) (j w : ℕ) (x : Group) → 0 < j → x ≡ node (j - 1) → in_set x.members w ≡ true → entry base (family node j) w ≡ x
-top_here base node j w x h e t = ap (λ (l : List Group). entry base l w) (family_step node j h) ∙ (cond-true (in_set (node (j - 1)).members w) (node (j - 1)) _ (subst (λ (y : Group). in_set y.members w ≡ true) e t) ∙ sym e)
-
-pub top_below : (base node : ℕ → Group) (j w : ℕ) (x : Group) → 0 < j → x ≡ node (j - 1) → in_set x.members w ≡ false → entry base (family node j) w ≡ entry base (family node (j - 1)) w
-top_below base node j w x h e t = ap (λ (l : List Group). entry base l w) (family_step node j h) ∙ cond-false (in_set (node (j - 1)).members w) (node (j - 1)) _ (subst (λ (y : Group). in_set y.members w ≡ false) e t)
 
 pub or_left : (a b : Bool) → a ≡ true → (a || b) ≡ true
 or_left true b e = refl

@@ -1,7 +1,7 @@
 -- The arcs that a search looks at, of n words: bit h of sets[d - 1] is up where the arc from h to d stands,
 -- and weights[(d - 1) * (n + 1) + h] is its weight. The first words can be held, each at a given head.
-use Rattle.std.specs.Prelude.{◌≡◌, ℕ, ◌+◌, ◌-◌, ◌*◌, ◌^◌, ◌<◌, ◌≤◌, Bool, true, false, cond, ◌&&◌, ◌||◌, List, [], map, length, Some, None, Option, ◌==◌, nat_lt, slice_index, slice_index_or}
-use Rattle.weight.specs.Worth.{Worth, plus, at_most, AtMost, Within}
+use Rattle.std.specs.Prelude.{◌≡◌, ℕ, suc, ◌+◌, ◌-◌, ◌*◌, ◌^◌, ◌<◌, ◌≤◌, Bool, true, false, cond, ◌&&◌, ◌||◌, List, [], map, length, Some, None, Option, ◌==◌, nat_lt, slice_index, slice_index_or}
+use Rattle.weight.specs.Worth.{Worth, zeros, plus, at_most, AtMost, Within}
 use Rattle.weight.specs.Layers.{Root, root_worth}
 use Rattle.weight.specs.Range.{Range, entry_in}
 use Rattle.tree.specs.Chains.{Word, head_of}
@@ -43,6 +43,10 @@ potential f potentials d = slice_index_or (map (root_worth f) potentials) d []
 pub record Sound (n : ℕ) (stands : ℕ → ℕ → Bool) (worth : ℕ → ℕ → Worth) (z : Worth) : Type 0 where
   pub whole : (h d : ℕ) → Word n d → h ≤ n → plus (worth h d) z ≡ worth h d
   pub small : (h d : ℕ) → Word n d → h ≤ n → stands h d ≡ true → Within (2 ^ 20) (worth h d)
+
+-- the same of a graph, over the root layer of a kind with p places
+abbrev pub SoundIn : {K : Type 0} → (K → Worth) → ℕ → Graph K → Type 0
+SoundIn f p graph = Sound graph.words (stands_in graph) (arc_in f graph) (zeros (suc p))
 
 -- ---- the best of some heads
 -- none of them, or one of them, and no other is worth more

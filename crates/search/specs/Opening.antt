@@ -1,5 +1,5 @@
 -- The family is opened from the newest set to the oldest: each set's word gets its head, unless a word of the set has one already
-use Rattle.std.specs.Prelude.{◌≡◌, ℕ, suc, ◌<◌, ◌≤◌, Bool, true, false, ◌⊎◌, List, All}
+use Rattle.std.specs.Prelude.{◌≡◌, ℕ, suc, ◌≤◌, Bool, true, false, ◌⊎◌, List, All}
 use Rattle.weight.specs.Worth.{Worth, AtMost}
 use Rattle.tree.specs.Chains.{Word, Reaches}
 use Rattle.arborescence.specs.Search.{Leader, Built, Tree, tree_worth}

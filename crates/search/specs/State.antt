@@ -5,10 +5,11 @@ use Rattle.tree.specs.Chains.{Word, up, Reaches}
 use Rattle.arborescence.specs.Search.{Tree, Into, Covers}
 use Rattle.search.specs.declared.family.Family.{Family as Records}
 use Rattle.search.specs.declared.family.Node.{Node}
+use Rattle.search.specs.declared.graph.Graph.{Graph}
 use Rattle.word_set.specs.Bits.{in_set}
 use Rattle.weight.specs.Worth.{zeros}
 use Rattle.weight.specs.Layers.{Root, root_worth}
-use Rattle.search.specs.Arcs.{potential}
+use Rattle.search.specs.Arcs.{stands_in, arc_in, potential}
 use Rattle.search.specs.Family.{Group, from_of, add_of, Valid}
 
 abbrev pub view : {K : Type 0} → (K → Worth) → Node K → Group
@@ -54,6 +55,10 @@ pub record State {K : Type 0} (f : K → Worth) (p n : ℕ) (stands : ℕ → �
   pub valid : Valid n stands worth (zeros (suc p)) (group_at f nodes) (family (group_at f merges) made)
   pub agree : (d : ℕ) → Word n d → potential f potentials d ≡ add_of n (zeros (suc p)) (group_at f nodes) (family (group_at f merges) made) d
 
+-- the same of a graph
+abbrev pub StateIn : {K : Type 0} → (K → Worth) → ℕ → Graph K → (nodes merges : List (Node K)) (potentials : List (Root K)) (made : ℕ) → Type 0
+StateIn f p graph nodes merges potentials made = State f p graph.words (stands_in graph) (arc_in f graph) nodes merges potentials made
+
 -- the memory of a search of n words is long enough, by the lengths of its parts
 pub record Room (n sets weights nodes merges potentials : ℕ) : Type 0 where
   pub sets_in : n ≤ sets
@@ -76,6 +81,10 @@ NoTree n stands = (head : ℕ → ℕ) → Tree n stands head → ⊥
 abbrev pub Grown : {K : Type 0} → (K → Worth) → (p n : ℕ) → (stands : ℕ → ℕ → Bool) (worth : ℕ → ℕ → Worth) → List (Node K) → List (Node K) → List (Root K) → Option ℕ → Type 0
 Grown f p n stands worth nodes merges potentials None = NoTree n stands
 Grown f p n stands worth nodes merges potentials (Some made) = State f p n stands worth nodes merges potentials made × ((w : ℕ) → Word n w → Reaches (head_by (group_at f nodes) (group_at f merges) made) w) × (made ≤ n - 1)
+
+-- the same of a graph
+abbrev pub GrownIn : {K : Type 0} → (K → Worth) → ℕ → Graph K → (nodes merges : List (Node K)) (potentials : List (Root K)) → Option ℕ → Type 0
+GrownIn f p graph nodes merges potentials made = Grown f p graph.words (stands_in graph) (arc_in f graph) nodes merges potentials made
 
 -- the words before k have their best arcs
 pub record BegunAt (n : ℕ) (stands : ℕ → ℕ → Bool) (worth : ℕ → ℕ → Worth) (z : Worth) (g : Group) (w : ℕ) : Type 0 where

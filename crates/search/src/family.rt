@@ -136,10 +136,8 @@ impl<K: Kind + Copy> Family<'_, K> {
         let mut sum: Root<K> = <Root<_> as Kind>::nothing();
         for word in 1..self.words + 1 {
             let node = self.top(word);
-            if node.arc.to == word {
-                if holds(members, word) {
-                    sum = sum.sum(&node.arc.value);
-                }
+            if node.arc.to == word && holds(members, word) {
+                sum = sum.sum(&node.arc.value);
             }
         }
         sum

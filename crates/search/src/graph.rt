@@ -33,10 +33,10 @@ impl<K: Kind + Copy> Graph<'_, K> {
         ensures { (h : ℕ) → in_set result h ≡ (nat_le h self.now.words && stands_in self.now h word) }
     {
         let heads = both(self.sets[word - 1], line(self.words));
-        if word > self.held.len() {
+        let Some(head) = self.held.get(word - 1) else {
             return heads;
-        }
-        let head = self.held[word - 1] as usize;
+        };
+        let head = *head as usize;
         if head > self.words {
             return 0;
         }
@@ -137,9 +137,8 @@ impl<K: Kind + Copy> Graph<'_, K> {
         ensures { root_worth K.Kind.worth result ≡ plus (zeros (suc K.Kind.places)) (tree_worth (arc_in K.Kind.worth self.now) (head_of heads.now) self.now.words) }
     {
         let mut sum: Root<K> = <Root<_> as Kind>::nothing();
-        for word in 1..self.words + 1 {
-            let from = heads[word - 1] as usize;
-            let next = self.arc(from, word);
+        for (i, head) in heads[..self.words].iter().enumerate() {
+            let next = self.arc(*head as usize, i + 1);
             sum = sum.sum(&next);
         }
         sum

@@ -6,7 +6,6 @@ ghost use Rattle.refusal.specs.declared.Refusal.{Refusal};
 ghost use Rattle.search.specs.Answer.{Line, FirstRefusal, Searched};
 ghost use Rattle.search.specs.Arcs.{allowed, weight_at};
 ghost use Rattle.search.specs.Space.{RoomIn, SameParts};
-ghost use Rattle.search.specs.State.{Room};
 
 use crate::graph::Graph;
 use crate::whole::heaviest;
@@ -28,29 +27,27 @@ pub use family::Node;
 pub use working::Working;
 
 // The first check that fails: the number of words, the memory, the space for the heads.
-fn check(
+fn check<K>(
     words: usize,
-    sets: usize,
-    weights: usize,
-    nodes: usize,
-    merges: usize,
-    potentials: usize,
-    space: usize,
+    sets: &[u64],
+    weights: &[K],
+    working: &Working<'_, K>,
+    heads: &[u8],
 ) -> Result<(), Refusal>
-    ensures { MatchResult result (λ _. Line words × Room words sets weights nodes merges potentials × (words ≤ space)) (FirstRefusal words (Room words sets weights nodes merges potentials) space) }
+    ensures { MatchResult result (λ _. Line words × RoomIn words sets.now weights.now working.now × (words ≤ length heads.now)) (FirstRefusal words (RoomIn words sets.now weights.now working.now) (length heads.now)) }
 {
     if words < 1 || words > 40 {
         return Err(Refusal::WordCount);
     }
-    if sets < words
-        || weights < words * (words + 1)
-        || nodes < words + 1
-        || merges < words - 1
-        || potentials < words + 1
+    if sets.len() < words
+        || weights.len() < words * (words + 1)
+        || working.nodes.len() < words + 1
+        || working.merges.len() < words - 1
+        || working.potentials.len() < words + 1
     {
         return Err(Refusal::ShortMemory);
     }
-    if space < words {
+    if heads.len() < words {
         return Err(Refusal::ShortSpace);
     }
     Ok(())
@@ -70,15 +67,7 @@ pub fn best_tree<K: Kind + Copy>(
     ensures told { Searched K.Kind.worth K.Kind.ranges words (allowed sets.now held.now) (weight_at K.Kind.worth words weights.now) (RoomIn words sets.now weights.now working.old) heads.old heads.new result }
     ensures parts { SameParts working.old working.new }
 {
-    check(
-        words,
-        sets.len(),
-        weights.len(),
-        working.nodes.len(),
-        working.merges.len(),
-        working.potentials.len(),
-        heads.len(),
-    )?;
+    check(words, sets, weights, working, heads)?;
     let graph = Graph {
         words,
         sets,

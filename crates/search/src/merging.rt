@@ -1,10 +1,9 @@
 // Rings of heads are merged into sets until every word's heads lead to the root.
-ghost use Rattle.std.specs.Prelude.{◌≡◌, ℕ, suc, ◌+◌, ◌<◌, ◌≤◌, length, MatchOption};
-ghost use Rattle.search.specs.Arcs.{stands_in, arc_in, Sound};
+ghost use Rattle.std.specs.Prelude.{◌≡◌, ℕ, ◌+◌, ◌<◌, ◌≤◌, length, MatchOption};
+ghost use Rattle.search.specs.Arcs.{stands_in, SoundIn};
 ghost use Rattle.search.specs.Ring.{Periodic};
-ghost use Rattle.search.specs.State.{group_at, head_by, NoTree, State, SpaceFor, Grown};
+ghost use Rattle.search.specs.State.{group_at, head_by, NoTree, StateIn, SpaceFor, GrownIn};
 ghost use Rattle.tree.specs.Chains.{Word};
-ghost use Rattle.weight.specs.Worth.{zeros};
 
 use crate::family::{Family, Node};
 use crate::graph::Graph;
@@ -20,13 +19,13 @@ fn merge<K: Kind + Copy>(
     word: usize,
 ) -> Option<()>
     requires space { SpaceFor graph.now.words (length nodes.now) (length merges.old) (length potentials.old) }
-    requires sound { Sound graph.now.words (stands_in graph.now) (arc_in K.Kind.worth graph.now) (zeros (suc K.Kind.places)) }
-    requires state { State K.Kind.worth K.Kind.places graph.now.words (stands_in graph.now) (arc_in K.Kind.worth graph.now) nodes.now merges.old potentials.old made }
+    requires sound { SoundIn K.Kind.worth K.Kind.places graph.now }
+    requires state { StateIn K.Kind.worth K.Kind.places graph.now nodes.now merges.old potentials.old made }
     requires made { made + 1 ≤ graph.now.words }
     requires word { Word graph.now.words word }
     requires ring { Periodic (head_by (group_at K.Kind.worth nodes.now) (group_at K.Kind.worth merges.old) made) word }
     ensures room { made + 2 ≤ graph.now.words }
-    ensures merged { MatchOption result (NoTree graph.now.words (stands_in graph.now)) (λ _. State K.Kind.worth K.Kind.places graph.now.words (stands_in graph.now) (arc_in K.Kind.worth graph.now) nodes.now merges.new potentials.new (made + 1)) }
+    ensures merged { MatchOption result (NoTree graph.now.words (stands_in graph.now)) (λ _. StateIn K.Kind.worth K.Kind.places graph.now nodes.now merges.new potentials.new (made + 1)) }
 {
     let family = Family {
         words: graph.words,
@@ -42,6 +41,7 @@ fn merge<K: Kind + Copy>(
 }
 
 // Merges rings until every word's heads lead to the root; returns how many merges there were, or none where there is no tree.
+// The sets that were made are the first `made` of the records that were lent: a search has no heap.
 pub(crate) fn grow<K: Kind + Copy>(
     graph: &Graph<'_, K>,
     nodes: &[Node<K>],
@@ -49,9 +49,9 @@ pub(crate) fn grow<K: Kind + Copy>(
     potentials: &mut [Root<K>],
 ) -> Option<usize>
     requires space { SpaceFor graph.now.words (length nodes.now) (length merges.old) (length potentials.old) }
-    requires sound { Sound graph.now.words (stands_in graph.now) (arc_in K.Kind.worth graph.now) (zeros (suc K.Kind.places)) }
-    requires state { State K.Kind.worth K.Kind.places graph.now.words (stands_in graph.now) (arc_in K.Kind.worth graph.now) nodes.now merges.old potentials.old 0 }
-    ensures { Grown K.Kind.worth K.Kind.places graph.now.words (stands_in graph.now) (arc_in K.Kind.worth graph.now) nodes.now merges.new potentials.new result }
+    requires sound { SoundIn K.Kind.worth K.Kind.places graph.now }
+    requires state { StateIn K.Kind.worth K.Kind.places graph.now nodes.now merges.old potentials.old 0 }
+    ensures { GrownIn K.Kind.worth K.Kind.places graph.now nodes.now merges.new potentials.new result }
 {
     let mut made = 0;
     'rounds: loop {

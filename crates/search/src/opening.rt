@@ -18,7 +18,7 @@ fn set_head(heads: &mut [u8], word: usize, from: usize)
     heads[word - 1] = from as u8;
 }
 
-// Gives each word the head of its own best arc.
+// Gives each word the head of its own best arc. (Of what is written over `iter_mut().zip(..)` nothing is known after the loop.)
 fn first_heads<K: Kind + Copy>(words: usize, nodes: &[Node<K>], heads: &mut [u8])
     requires few { words ≤ 40 }
     requires nodes { words < length nodes.now }

@@ -1,6 +1,6 @@
 // The whole search: each word's best arc, the merges, the opening.
 ghost use Rattle.std.specs.Prelude.{◌≡◌, ℕ, suc, ◌<◌, ◌≤◌, length, MatchOption};
-ghost use Rattle.search.specs.Arcs.{stands_in, arc_in, potential, Sound};
+ghost use Rattle.search.specs.Arcs.{stands_in, arc_in, potential, SoundIn};
 ghost use Rattle.search.specs.Family.{Begun};
 ghost use Rattle.search.specs.Opening.{BestOfAll};
 ghost use Rattle.search.specs.State.{group_at, NoTree, SpaceFor};
@@ -15,32 +15,24 @@ use crate::opening::open;
 use weight::{Kind, Root};
 use word_set::{only, without};
 
-// Every potential is nothing.
+// Every potential is nothing. (`fill` asks for a clone that cannot fail, and of a kind of weight that is not known.)
 fn clear<K: Kind + Copy>(words: usize, potentials: &mut [Root<K>])
     requires few { words ≤ 40 }
     requires room { words < length potentials.old }
     ensures { (w : ℕ) → w ≤ words → potential K.Kind.worth potentials.new w ≡ zeros (suc K.Kind.places) }
 {
-    for word in 0..words + 1 {
-        potentials[word] = <Root<_> as Kind>::nothing();
+    for potential in &mut potentials[..words + 1] {
+        *potential = <Root<_> as Kind>::nothing();
     }
 }
 
 // The best arc into each word; none where a word has none, and so there is no tree.
 fn begin<K: Kind + Copy>(graph: &Graph<'_, K>, nodes: &mut [Node<K>]) -> Option<()>
     requires room { graph.now.words < length nodes.old }
-    requires sound { Sound graph.now.words (stands_in graph.now) (arc_in K.Kind.worth graph.now) (zeros (suc K.Kind.places)) }
+    requires sound { SoundIn K.Kind.worth K.Kind.places graph.now }
     ensures { MatchOption result (NoTree graph.now.words (stands_in graph.now)) (λ _. Begun graph.now.words (stands_in graph.now) (arc_in K.Kind.worth graph.now) (zeros (suc K.Kind.places)) (group_at K.Kind.worth nodes.new)) }
 {
-    let value = <Root<_> as Kind>::nothing();
-    nodes[0] = Node {
-        members: 0,
-        arc: Entering {
-            from: 0,
-            to: 0,
-            value,
-        },
-    };
+    nodes[0] = Node::new(K::nothing());
     for to in 1..graph.words + 1 {
         let members = only(to);
         let from = graph.best_head(to, without(graph.open_heads(to), members))?;
@@ -61,7 +53,7 @@ pub(crate) fn heaviest<K: Kind + Copy>(
     potentials: &mut [Root<K>],
 ) -> Option<[u8; 40]>
     requires space { SpaceFor graph.now.words (length nodes.old) (length merges.old) (length potentials.old) }
-    requires sound { Sound graph.now.words (stands_in graph.now) (arc_in K.Kind.worth graph.now) (zeros (suc K.Kind.places)) }
+    requires sound { SoundIn K.Kind.worth K.Kind.places graph.now }
     ensures { MatchOption result (NoTree graph.now.words (stands_in graph.now)) (λ heads. BestOfAll graph.now.words (stands_in graph.now) (arc_in K.Kind.worth graph.now) (head_of heads)) }
 {
     clear(graph.words, potentials);

@@ -1,4 +1,4 @@
-use Rattle.std.proofs.Common.{◌≡◌, ℕ, ◌≤◌, List, length, sym, subst, arith, rules}
+use Rattle.std.proofs.Common.{ℕ, ◌≤◌, List, length, sym, subst, arith}
 use Rattle.tree.specs.Chains.{Word, Reaches}
 use Rattle.search.specs.Arcs.{stands_in, arc_in}
 use Rattle.search.specs.Family.{Group, from_of}

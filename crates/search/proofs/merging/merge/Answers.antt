@@ -1,4 +1,4 @@
-use Rattle.std.proofs.Common.{◌≡◌, ℕ, ◌+◌, ◌^◌, ◌<◌, ◌≤◌, ◌&&◌, None, List, length, map, reverse, take, sym, refl, subst, arith, rules}
+use Rattle.std.proofs.Common.{◌≡◌, ◌+◌, ◌^◌, ◌<◌, ◌≤◌, ◌&&◌, None, List, length, map, reverse, take, sym, refl, subst, arith, rules}
 use Rattle.weight.specs.Worth.{Within}
 use Rattle.arborescence.specs.Search.{leads}
 use Rattle.word_set.specs.Bits.{in_set}

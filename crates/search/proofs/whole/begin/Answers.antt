@@ -1,4 +1,4 @@
-use Rattle.std.proofs.Common.{◌≡◌, ℕ, suc, ◌+◌, ◌<◌, Bool, length, length-set, sym, ap, ◌∙◌, subst, arith, rules}
+use Rattle.std.proofs.Common.{◌≡◌, ℕ, suc, ◌<◌, Bool, length, length-set, ap, ◌∙◌, arith, rules}
 use Rattle.weight.specs.Worth.{Worth, zeros}
 use Rattle.weight.specs.Layers.{root_worth}
 use Rattle.tree.specs.Chains.{Word}
@@ -14,7 +14,7 @@ pub loop-to-init : goal.loop-to-init
 loop-to-init g c =
     let f = g.K.Kind.worth in
     let l : 0 < length c.args.nodes.now = omega (arith, c.requires.room) in
-    let e = group_set_same f c.args.nodes.now 0 _ l in
+    let e = group_set_same f c.args.nodes.now 0 _ l ∙ c.new.ensures in
     (ap (λ (x : Group). x.to) e, ap (λ (x : Group). x.from) e, λ w v lt. absurd (omega (arith, v.0)))
 
 pub best_head-requires : goal.best_head-requires

@@ -3,5 +3,5 @@ use Rattle.weight.specs.Worth.{zeros}
 use Rattle.search.specs.Arcs.{potential}
 use Rattle.search.proofs.whole.clear.Given as goal
 
-abbrev pub invariant-loop-word : goal.invariant-loop-word
-invariant-loop-word g l = (w : ℕ) → w < l.word → potential g.K.Kind.worth l.potentials w ≡ zeros (suc g.K.Kind.places)
+abbrev pub invariant-loop-potential : goal.invariant-loop-potential
+invariant-loop-potential g l = (w : ℕ) → w < l.potential-index → potential g.K.Kind.worth l.potential-items w ≡ zeros (suc g.K.Kind.places)

@@ -1,4 +1,4 @@
-use Rattle.std.proofs.Common.{◌≡◌, ℕ, suc, ◌≤◌, List, length, sym, subst, arith}
+use Rattle.std.proofs.Common.{ℕ, suc, ◌≤◌, List, length, subst, arith}
 use Rattle.weight.specs.Worth.{Worth, zeros}
 use Rattle.tree.specs.Chains.{Word, Reaches}
 use Rattle.search.specs.Arcs.{stands_in, arc_in}

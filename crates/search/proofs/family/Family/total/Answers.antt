@@ -11,7 +11,7 @@ use Rattle.search.specs.Family.{Group, rep_of, best_of}
 use Rattle.search.specs.State.{base_in, sets_in}
 use Rattle.search.proofs.Records.{entry_value}
 use Rattle.search.proofs.Raised.{sum_yes, sum_no, sum_small}
-use Rattle.search.proofs.family.Family.total.Goals.{then-node-word+then-holds, then-node-word+else-holds, else-node-word}
+use Rattle.search.proofs.family.Family.total.Goals.{then-node-word+then-holds, else-node-word, else-node-word-via-then-node-word+else-holds, else-node-word-via-else-node-word}
 use Rattle.search.proofs.family.Family.total.Goals as goal
 
 pub loop-word-init : goal.loop-word-init
@@ -34,13 +34,12 @@ loop-word-preserved g c =
           let so_far : Within (2 ^ 40) (root_worth f c.loop-word.sum) = subst (Within (2 ^ 40)) (sym c.loop-word.invariant) (sum_small (2 ^ 26) (suc g.K.Kind.places) p (best_of base ms) (w - 1) (2 ^ 40) (λ v u. c.requires.small v (u.0, omega arith)) le) in
           let next : Within (2 ^ 40) (root_worth f c.top-node.result.arc.value) = subst (Within (2 ^ 40)) (sym e) (within_more (2 ^ 26) (2 ^ 40) (best_of base ms w) (omega arith) (c.requires.small w (c.loop-word.auto.word, omega arith))) in
           ap (root_worth f) y.sum-is ∙ (y.sum-sum.ensures so_far next ∙ (ap (λ (x : Worth). plus x (root_worth f c.top-node.result.arc.value)) c.loop-word.invariant ∙ (ap (plus (plus z (sum_if p (best_of base ms) (w - 1)))) e ∙ sum_yes z p (best_of base ms) w c.loop-word.auto.word (and_from (leads (rep_of ms) w) (in_set c.args.members w) l (sym y.if-holds.ensures)))))
-      | then-node-word+else-holds y ↦
-          let l : leads (rep_of ms) w ≡ true = eq-eqb (rep_of ms w) w (sym own ∙ y.if-node-word.true) in
-          let no : p w ≡ false = ap (λ (b : Bool). b && in_set c.args.members w) l ∙ sym y.if-holds.ensures in
-          ap (root_worth f) y.sum-is ∙ (c.loop-word.invariant ∙ sum_no z p (best_of base ms) w c.loop-word.auto.word no)
       | else-node-word y ↦
-          let l : leads (rep_of ms) w ≡ false = ne_eqb (rep_of ms w) w (λ q. y.if-node-word.false (own ∙ q)) in
-          let no : p w ≡ false = ap (λ (b : Bool). b && in_set c.args.members w) l in
+          let no : p w ≡ false =
+          elim y.else-node-word.branch [
+            | else-node-word-via-then-node-word+else-holds v ↦ ap (λ (b : Bool). b && in_set c.args.members w) (eq-eqb (rep_of ms w) w (sym own ∙ v.if-node-word.true)) ∙ sym v.if-holds.ensures
+            | else-node-word-via-else-node-word v ↦ ap (λ (b : Bool). b && in_set c.args.members w) (ne_eqb (rep_of ms w) w (λ q. v.if-node-word.false (own ∙ q)))
+          ] in
           ap (root_worth f) y.sum-is ∙ (c.loop-word.invariant ∙ sum_no z p (best_of base ms) w c.loop-word.auto.word no)
     ]
 

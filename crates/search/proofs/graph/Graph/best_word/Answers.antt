@@ -1,4 +1,4 @@
-use Rattle.std.proofs.Common.{◌≡◌, ℕ, Some, sym, subst}
+use Rattle.std.proofs.Common.{ℕ, Some, sym, subst}
 use Rattle.weight.specs.Worth.{Worth}
 use Rattle.search.specs.Arcs.{weight_in}
 use Rattle.search.proofs.Scan.{Seen, seen_more, seen_all}

@@ -1,32 +1,41 @@
-use Rattle.std.proofs.Common.{◌≡◌, ℕ, suc, ◌+◌, ◌-◌, ◌*◌, ◌^◌, ◌≤◌, true, sym, refl, ap, ◌∙◌, subst, arith}
+use Rattle.std.proofs.Common.{◌≡◌, ℕ, suc, ◌+◌, ◌*◌, ◌^◌, ◌≤◌, true, sym, refl, ap, ◌∙◌, subst, arith}
+use Rattle.std.proofs.lemmas.List.{length-take-le}
 use Rattle.weight.specs.Worth.{Worth, zeros, plus, Within}
 use Rattle.weight.specs.Layers.{root_worth}
 use Rattle.weight.proofs.Worths.{within_more}
 use Rattle.tree.specs.Chains.{Word, head_of}
 use Rattle.arborescence.specs.Search.{tree_worth}
 use Rattle.search.specs.Arcs.{arc_in}
-use Rattle.search.proofs.Held.{head_at}
-use Rattle.search.proofs.Raised.{sum_yes, sum_small}
+use Rattle.search.proofs.Held.{head_next}
+use Rattle.search.proofs.Raised.{sum_next, sum_small}
 use Rattle.search.proofs.graph.Graph.tree_weight.Goals as goal
 
-pub loop-word-preserved : goal.loop-word-preserved
-loop-word-preserved g c =
+pub arc-next-requires-clause-from : goal.arc-next-requires-clause-from
+arc-next-requires-clause-from g c =
+    let n : ℕ = c.args.self.now.words in
+    let long = length-take-le n c.args.heads.now c.requires.room in
+    let v : Word n (c.loop-i.i + 1) = omega (arith, c.loop-i-test.true) in
+    subst (λ (h : ℕ). h ≤ n) (head_next n c.args.heads.now c.loop-i.i v.1) (c.requires.in_line (c.loop-i.i + 1) v)
+
+pub loop-i-preserved : goal.loop-i-preserved
+loop-i-preserved g c =
     let f = g.K.Kind.worth in
-    let w : ℕ = c.loop-word.word in
+    let i : ℕ = c.loop-i.i in
     let n : ℕ = c.args.self.now.words in
     let z : Worth = zeros (suc g.K.Kind.places) in
-    let v : Word n w = (c.loop-word.auto.word, omega (arith, c.loop-word-test.true)) in
+    let long = length-take-le n c.args.heads.now c.requires.room in
+    let v : Word n (i + 1) = omega (arith, c.loop-i-test.true) in
     let worth : ℕ → ℕ → Worth = arc_in f c.args.self.now in
     let term : ℕ → Worth = λ d. worth (head_of c.args.heads.now d) d in
-    let at : root_worth f c.arc-next.result ≡ term w = c.arc-next.ensures ∙ ap (λ (h : ℕ). worth h w) (sym (head_at c.args.heads.now w v.0)) in
-    let le : (2 ^ 20) * (w - 1) ≤ 2 ^ 40 = omega (arith, v.1, c.args.self.now.few) in
-    let so_far : Within (2 ^ 40) (root_worth f c.loop-word.sum) = subst (Within (2 ^ 40)) (sym c.loop-word.invariant) (sum_small (2 ^ 20) (suc g.K.Kind.places) (λ _. true) term (w - 1) (2 ^ 40) (λ d u. c.requires.small d (u.0, omega arith)) le) in
-    let next : Within (2 ^ 40) (root_worth f c.arc-next.result) = subst (Within (2 ^ 40)) (sym at) (within_more (2 ^ 20) (2 ^ 40) (term w) (omega arith) (c.requires.small w v)) in
-    c.sum-sum.ensures so_far next ∙ (ap (λ (x : Worth). plus x (root_worth f c.arc-next.result)) c.loop-word.invariant ∙ (ap (plus (plus z (tree_worth worth (head_of c.args.heads.now) (w - 1)))) at ∙ sum_yes z (λ _. true) term w v.0 refl))
+    let at : root_worth f c.arc-next.result ≡ term (i + 1) = c.arc-next.ensures ∙ ap (λ (h : ℕ). worth h (i + 1)) (sym (head_next n c.args.heads.now i v.1)) in
+    let le : (2 ^ 20) * i ≤ 2 ^ 40 = omega (arith, v.1, c.args.self.now.few) in
+    let so_far : Within (2 ^ 40) (root_worth f c.loop-i.sum) = subst (Within (2 ^ 40)) (sym c.loop-i.invariant) (sum_small (2 ^ 20) (suc g.K.Kind.places) (λ _. true) term i (2 ^ 40) (λ d u. c.requires.small d (u.0, omega arith)) le) in
+    let next : Within (2 ^ 40) (root_worth f c.arc-next.result) = subst (Within (2 ^ 40)) (sym at) (within_more (2 ^ 20) (2 ^ 40) (term (i + 1)) (omega arith) (c.requires.small (i + 1) v)) in
+    c.sum-sum.ensures so_far next ∙ (ap (λ (x : Worth). plus x (root_worth f c.arc-next.result)) c.loop-i.invariant ∙ (ap (plus (plus z (tree_worth worth (head_of c.args.heads.now) i))) at ∙ sum_next z (λ _. true) term i refl))
 
 pub returns : goal.returns
 returns g c =
     let f = g.K.Kind.worth in
-    let u : c.loop-word.word ≤ c.args.self.now.words + 1 = c.loop-word.auto.word-end (omega arith) in
-    let e : c.loop-word.word - 1 ≡ c.args.self.now.words = omega (arith, c.loop-word-test.false) in
-    c.loop-word.invariant ∙ ap (λ (k : ℕ). plus (zeros (suc g.K.Kind.places)) (tree_worth (arc_in f c.args.self.now) (head_of c.args.heads.now) k)) e
+    let long = length-take-le c.args.self.now.words c.args.heads.now c.requires.room in
+    let e : c.loop-i.i ≡ c.args.self.now.words = omega (arith, c.loop-i-test.false, c.loop-i.auto.i-end) in
+    c.loop-i.invariant ∙ ap (λ (k : ℕ). plus (zeros (suc g.K.Kind.places)) (tree_worth (arc_in f c.args.self.now) (head_of c.args.heads.now) k)) e
