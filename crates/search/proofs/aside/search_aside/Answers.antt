@@ -1,5 +1,4 @@
-use Rattle.std.proofs.Common.{◌≡◌, ℕ, ◌+◌, Bool, List, length, set, subst, length-set, rules}
-use Rattle.std.proofs.lemmas.List.{set-set, set-get_or}
+use Rattle.std.proofs.Common.{◌≡◌, ℕ, ◌+◌, Bool, List, length, set, subst, length-set}
 use Rattle.weight.specs.Worth.{Worth}
 use Rattle.search.specs.Answer.{Searched, barring}
 use Rattle.search.specs.Arcs.{allowed, weight_at}
@@ -7,8 +6,8 @@ use Rattle.search.specs.State.{Room}
 use Rattle.search.proofs.Barring.{searched_same, barring_set}
 use Rattle.search.proofs.aside.search_aside.Goals as goal
 
-pub returns : goal.returns
-returns g c =
+pub returns-clause-told : goal.returns-clause-told
+returns-clause-told g c =
     let W = g.K.Kind in
     let n : ℕ = c.args.words in
     let sets : List ℕ = c.args.sets.now in
@@ -20,9 +19,5 @@ returns g c =
     let over : List ℕ → ℕ → Type 0 = λ xs k. Searched W.worth W.ranges n (allowed xs held) worth (room k) c.args.heads.now c.best_tree.new.heads c.best_tree.result in
     let found : over less (length less) = subst (λ (xs : List ℕ). over xs (length xs)) c.seen.ensures c.best_tree.ensures.told in
     let long : length less ≡ length sets = length-set sets (length held) c.without.result in
-    record {
-      kept = search (rules, set-set, set-get_or);
-      told = searched_same W.worth W.ranges n (allowed less held) b worth (room (length sets)) c.args.heads.now c.best_tree.new.heads c.best_tree.result
-          (λ _ h d v. barring_set n sets held c.args.barred c.without.result h d c.requires c.without.ensures v) (subst (over less) long found);
-      parts = c.best_tree.ensures.parts;
-    }
+    searched_same W.worth W.ranges n (allowed less held) b worth (room (length sets)) c.args.heads.now c.best_tree.new.heads c.best_tree.result
+    (λ _ h d v. barring_set n sets held c.args.barred c.without.result h d c.requires c.without.ensures v) (subst (over less) long found)

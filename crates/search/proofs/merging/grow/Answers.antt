@@ -1,10 +1,8 @@
-use Rattle.std.proofs.Common.{ℕ, ◌≤◌, List, length, sym, subst, arith}
+use Rattle.std.proofs.Common.{ℕ, List, length, sym, subst, arith}
 use Rattle.tree.specs.Chains.{Word, Reaches}
-use Rattle.search.specs.Arcs.{stands_in, arc_in}
 use Rattle.search.specs.Family.{Group, from_of}
 use Rattle.search.specs.Ring.{Periodic}
-use Rattle.search.specs.State.{group_at}
-use Rattle.search.proofs.Records.{family_made}
+use Rattle.search.specs.State.{group_at, SpaceFor}
 use Rattle.search.proofs.Steps.{known}
 use Rattle.search.proofs.merging.grow.Goals as goal
 
@@ -15,25 +13,24 @@ pub walk_all-requires : goal.walk_all-requires
 walk_all-requires g c =
     let W = g.K.Kind in
     let s = c.requires.space in
-    let le : c.rounds.made ≤ length c.rounds.merges = omega (arith, s.merges_in, c.rounds.auto.merges, c.rounds.invariant.1) in
-    let is = family_made W.worth c.rounds.merges c.rounds.made le in
-    let k = known W.worth W.places W.sized c.args.graph.now.words c.args.graph.now.few (stands_in c.args.graph.now) (arc_in W.worth c.args.graph.now) c.requires.sound c.args.nodes.now c.rounds.merges c.rounds.potentials c.rounds.made (omega (arith, c.rounds.auto.potentials, s.potentials_in)) c.rounds.invariant.0 _ is in
+    let space : SpaceFor c.args.graph.now.words (length c.args.nodes.now) (length c.rounds.merges) (length c.rounds.potentials) = record { nodes_in = s.nodes_in; merges_in = omega (arith, s.merges_in, c.rounds.auto.merges); potentials_in = omega (arith, c.rounds.auto.potentials, s.potentials_in) } in
+    let k = known W.worth W.places W.sized c.args.graph.now c.requires.sound c.args.nodes.now c.rounds.merges c.rounds.potentials c.rounds.made space c.rounds.invariant.1 c.rounds.invariant.0 in
     record { heads = λ w v. k.laid.in_line w v.1 }
 
 pub merge-requires : goal.merge-requires
 merge-requires g c =
     let W = g.K.Kind in
     let s = c.requires.space in
-    let le : c.rounds.made ≤ length c.rounds.merges = omega (arith, s.merges_in, c.rounds.auto.merges, c.rounds.invariant.1) in
-    let is = family_made W.worth c.rounds.merges c.rounds.made le in
+    let space : SpaceFor c.args.graph.now.words (length c.args.nodes.now) (length c.rounds.merges) (length c.rounds.potentials) = record { nodes_in = s.nodes_in; merges_in = omega (arith, s.merges_in, c.rounds.auto.merges); potentials_in = omega (arith, c.rounds.auto.potentials, s.potentials_in) } in
+    let k = known W.worth W.places W.sized c.args.graph.now c.requires.sound c.args.nodes.now c.rounds.merges c.rounds.potentials c.rounds.made space c.rounds.invariant.1 c.rounds.invariant.0 in
     let at = c.in-Err.ensures in
     record {
-      space = record { nodes_in = s.nodes_in; merges_in = omega (arith, s.merges_in, c.rounds.auto.merges); potentials_in = omega (arith, c.rounds.auto.potentials, s.potentials_in) };
+      space = space;
       sound = c.requires.sound;
       state = c.rounds.invariant.0;
       made = omega (arith, c.rounds.invariant.1, at.0.0, at.0.1);
       word = at.0;
-      ring = subst (λ (ms : List Group). Periodic (from_of (group_at W.worth c.args.nodes.now) ms) c.in-Err.word) (sym is) at.1;
+      ring = subst (λ (ms : List Group). Periodic (from_of (group_at W.worth c.args.nodes.now) ms) c.in-Err.word) (sym k.sets) at.1;
     }
 
 pub rounds-preserved : goal.rounds-preserved
@@ -49,6 +46,6 @@ pub returns-in_default : goal.returns-in_default
 returns-in_default g c =
     let W = g.K.Kind in
     let s = c.requires.space in
-    let le : c.rounds.made ≤ length c.rounds.merges = omega (arith, s.merges_in, c.rounds.auto.merges, c.rounds.invariant.1) in
-    let is = family_made W.worth c.rounds.merges c.rounds.made le in
-    (c.rounds.invariant.0, subst (λ (ms : List Group). (w : ℕ) → Word c.args.graph.now.words w → Reaches (from_of (group_at W.worth c.args.nodes.now) ms) w) (sym is) c.in_default.ensures, c.rounds.invariant.1)
+    let space : SpaceFor c.args.graph.now.words (length c.args.nodes.now) (length c.rounds.merges) (length c.rounds.potentials) = record { nodes_in = s.nodes_in; merges_in = omega (arith, s.merges_in, c.rounds.auto.merges); potentials_in = omega (arith, c.rounds.auto.potentials, s.potentials_in) } in
+    let k = known W.worth W.places W.sized c.args.graph.now c.requires.sound c.args.nodes.now c.rounds.merges c.rounds.potentials c.rounds.made space c.rounds.invariant.1 c.rounds.invariant.0 in
+    (c.rounds.invariant.0, subst (λ (ms : List Group). (w : ℕ) → Word c.args.graph.now.words w → Reaches (from_of (group_at W.worth c.args.nodes.now) ms) w) (sym k.sets) c.in_default.ensures, c.rounds.invariant.1)

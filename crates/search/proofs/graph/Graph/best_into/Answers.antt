@@ -16,7 +16,7 @@ best_arc-requires g c =
     let w : ℕ → ℕ → Worth = with_potential (arc_in f c.args.self.now) (potential f c.args.potentials.now) in
     let l : to < length c.args.potentials.now = omega (arith, v.1, c.requires.room) in
     let e = element (root_worth f) c.args.potentials.now to c.index-potentials-to.result l c.index-potentials-to.is in
-    let q = free_arc f w n (stands_in c.args.self.now) c.args.inside to c.open_heads.result c.without-heads.result c.open_heads.ensures c.without-heads.ensures in
+    let q = free_arc f w n (stands_in c.args.self.now) _ to c.open_heads.result c.without-heads.result c.open_heads.ensures c.without-heads.ensures in
     record {
       to = v;
       heads = λ h t. (q h t).0;
