@@ -1,5 +1,5 @@
 -- The numbers by which refusals are told.
-use Rattle.std.specs.Prelude.{ℕ, ◌≡◌}
+use Rattle.std.specs.Prelude.{ℕ, ◌≡◌, List, ◌++◌, decimal, codes}
 use Rattle.refusal.specs.declared.Refusal.TheVariants.{WordCount, ShortMemory, NoDependent, HeadAbove, SelfLoop, NoEntry, AbsentArc, NoTree, NoMore, Fifty, ShortSpace, NotATree}
 use Rattle.refusal.specs.declared.Refusal.{Refusal}
 
@@ -16,6 +16,10 @@ number_of NoMore = 9
 number_of Fifty = 10
 number_of ShortSpace = 14
 number_of NotATree = 15
+
+-- a refusal as it is printed: `refused `, and its number
+abbrev pub refused_text : Refusal → List ℕ
+refused_text refusal = codes "refused " ++ decimal (number_of refusal)
 
 -- no two refusals have the same number
 abbrev pub ToldApart : Type 0

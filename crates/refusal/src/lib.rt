@@ -1,8 +1,10 @@
 // Why a call is refused. Each reason has a number of its own, which never changes.
 #![tactic(auto)]
 
-ghost use Rattle.refusal.specs.Refusals.{number_of, ToldApart};
-ghost use Rattle.std.specs.Prelude.{◌≡◌};
+ghost use Rattle.refusal.specs.Refusals.{number_of, refused_text, ToldApart};
+ghost use Rattle.std.specs.Prelude.{◌≡◌, Some};
+
+use std::fmt;
 
 #[derive(Clone, Copy, PartialEq, Eq, Debug)]
 pub enum Refusal {
@@ -39,5 +41,15 @@ impl Refusal {
         ensures apart { ToldApart }
     {
         self as u8
+    }
+}
+
+// Writes `refused` and the number.
+impl fmt::Display for Refusal {
+    ghost output = { λ refusal. Some (refused_text refusal) };
+
+    fn fmt<W: fmt::Write>(&self, f: &mut fmt::Formatter<W>) -> fmt::Result {
+        let number = self.number();
+        write!(f, "refused {number}")
     }
 }

@@ -1,11 +1,7 @@
-use Rattle.std.proofs.Common.{◌≡◌, ℕ, suc, ◌+◌, ◌/◌, ◌%◌, ◌^◌, ◌<◌, ◌≤◌, true, ◌⊎◌, List, [], ◌∷◌, ◌++◌, length, take, drop, set, ℤ, pos, negsuc, nat_abs, Ok, Err, decimal, sym, refl, ap, ◌∙◌, inl, inr, append_assoc, arith, length-append, length-drop, take-append-drop, length-take-le, ltb-true}
+use Rattle.std.proofs.Common.{◌≡◌, ℕ, suc, ◌+◌, ◌/◌, ◌%◌, ◌^◌, ◌<◌, ◌≤◌, ◌⊎◌, List, [], ◌∷◌, ◌++◌, length, take, drop, set, Ok, decimal, sym, refl, ap, ◌∙◌, inl, inr, append_assoc, arith, length-append, length-drop, take-append-drop, length-take-le}
 use lib.Seq.{set_split}
-use Rattle.refusal.specs.declared.Refusal.TheVariants.{ShortSpace}
-use Rattle.refusal.specs.declared.Refusal.{Refusal}
-use Rattle.std.proofs.lemmas.Bool.{cases_lt, both_ways}
-use lib.Signed.{lt_z}
-use Rattle.std.specs.Fmt.{signed_decimal}
-use Rattle.std.proofs.lemmas.Fmt.{decimal_digit, decimal_step}
+use Rattle.std.proofs.lemmas.Bool.{cases_lt}
+use Rattle.std.proofs.lemmas.Fmt.{decimal_digit, decimal_step, length-decimal-le}
 use Rattle.std.proofs.lemmas.List.{take_at, drop_at, drop-drop}
 use Rattle.text.specs.Space.{written, Placed}
 
@@ -14,6 +10,9 @@ length_one n h = ap length (decimal_digit n h)
 
 pub length_more : (n : ℕ) → 10 ≤ n → n < 2 ^ 64 → length (decimal n) ≡ length (decimal (n / 10)) + 1
 length_more n h f = ap length (decimal_step n h f) ∙ length-append (decimal (n / 10)) ((48 + n % 10) ∷ [])
+
+pub few_digits : (n : ℕ) → n < 2 ^ 64 → length (decimal n) ≤ 20
+few_digits n h = length-decimal-le 20 n (omega arith) (omega arith) h
 
 pub length_written : (s : List ℕ) (at : ℕ) (t : List ℕ) → at + length t ≤ length s → length (written s at t) ≡ length s
 length_written s at t h = simp (length-append, length-drop) (let e : length (take at s) ≡ at = length-take-le at s (omega arith) in omega arith)
@@ -39,17 +38,6 @@ written_byte s at t b k e h =
     let same = length_written s at t (omega arith) in
     written_one (written s at t) k b (omega arith) ∙ written_two s at t (b ∷ []) k e (omega arith)
 
-pub signed_negative : (v w : ℤ) (n : ℕ) → w ≡ v → lt_z w (pos 0) ≡ true → n ≡ nat_abs w → signed_decimal v ≡ 45 ∷ decimal n
-signed_negative v (pos m) n e h a = absurd (omega (arith, ltb-true m 0 h))
-signed_negative v (negsuc m) n e h a = ap signed_decimal (sym e) ∙ ap (λ k. 45 ∷ decimal k) (sym a)
-
--- a minus and the digits behind it
-pub minus_then : (s t : List ℕ) (at : ℕ) → at + (1 + length t) ≤ length s → written (set s at 45) (at + 1) t ≡ written s at (45 ∷ t)
-minus_then s t at h =
-    let h0 : at < length s = omega arith in
-    let h1 : at + 1 + length t ≤ length s = omega arith in
-    ap (λ l. written l (at + 1) t) (written_one s at 45 h0) ∙ written_two s at (45 ∷ []) t (at + 1) refl h1
-
 pub written_none : (s : List ℕ) (at : ℕ) → written s at [] ≡ s
 written_none s at = let z : at + 0 ≡ at = omega arith in ap (λ k. take at s ++ drop k s) z ∙ take-append-drop at s
 
@@ -63,17 +51,10 @@ mark_then s next at end m t rest is e h =
     ap (λ l. written l end rest) (is ∙ ap (λ l. written l (at + 1) t) (written_one s at m h0) ∙ written_two s at (m ∷ []) t (at + 1) refl h1)
     ∙ written_two s at (m ∷ t) rest end place h2
 
--- an accepted call wrote the text, and a refused one found too little room
+-- an accepted call wrote the text
 pub placed_ok : (t s : List ℕ) (at end : ℕ) (after : List ℕ) → Placed t s at (Ok end) after → (end ≡ at + length t) × (after ≡ written s at t)
 placed_ok t s at end after p = by (cases_lt (length s) (at + length t))
   where
     by : (length s < at + length t) ⊎ (at + length t ≤ length s) → (end ≡ at + length t) × (after ≡ written s at t)
     by (inl short) = let no = (p.short short).0 in ((cc), (cc))
     by (inr fits) = let yes = (p.fits fits).0 in ((cc), (p.fits fits).1)
-
-pub placed_err : (t s : List ℕ) (at : ℕ) (why : Refusal) (after : List ℕ) → Placed t s at (Err why) after → (why ≡ ShortSpace) × (length s < at + length t) × (after ≡ s)
-placed_err t s at why after p = by (cases_lt (length s) (at + length t))
-  where
-    by : (length s < at + length t) ⊎ (at + length t ≤ length s) → (why ≡ ShortSpace) × (length s < at + length t) × (after ≡ s)
-    by (inl short) = let yes = (p.short short).0 in ((cc), short, (p.short short).1)
-    by (inr fits) = let no = (p.fits fits).0 in absurd (both_ways true (cc) refl)

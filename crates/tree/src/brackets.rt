@@ -10,44 +10,31 @@ use text::{put, width};
 
 // Draws the tree of the heads at the front of the space, and returns the length of the text.
 // Heads that form no single-root tree are refused, then too short a space; a refusal leaves the space as it was.
+#[tactic(auto, using(crate::proofs::Depths::rooted, crate::proofs::Depths::written_likewise))]
 pub fn write_brackets(heads: &[u8], space: &mut [u8]) -> Result<usize, Refusal>
     ensures drawn { Drawn heads.now space.old result space.new }
     ensures likewise { (root : ℕ) → LineTree heads.now root → WrittenLikewise heads.now }
 {
     let root = check_heads(heads)?;
-    let Some(_) = room_behind(heads, root, space.len()) else {
-        return Err(Refusal::ShortSpace);
-    };
+    room_behind(heads, root, space.len()).ok_or(Refusal::ShortSpace)?;
     write_word(heads, root, space, 0)
 }
 
 // What is left of the room behind the text of the word, or none where the text is longer.
+#[tactic(auto, using(crate::proofs::Depths::length_bracketed, crate::proofs::Depths::falls, crate::proofs::Rests::length_rest, crate::proofs::Rests::rest_no, crate::proofs::Rests::rest_none, crate::proofs::Rests::rest_last))]
 fn room_behind(heads: &[u8], word: usize, room: usize) -> Option<usize>
     requires { Rooted heads.now }
     ensures { MatchOption result (room < length (bracketed heads.now word)) (λ free. free + length (bracketed heads.now word) ≡ room) }
 {
-    let digits = width(word as u64);
-    if room < digits {
-        return None;
-    }
-    let mut free = room - digits;
+    let mut free = room.checked_sub(width(word))?;
     let mut first = true;
-    for i in 0..heads.len() {
-        if heads[i] as usize == word {
-            if free == 0 {
-                return None;
-            }
-            free = room_behind(heads, i + 1, free - 1)?;
+    for (i, head) in heads.iter().enumerate() {
+        if usize::from(*head) == word {
+            free = room_behind(heads, i + 1, free.checked_sub(1)?)?;
             first = false;
         }
     }
-    if first {
-        return Some(free);
-    }
-    if free == 0 {
-        return None;
-    }
-    Some(free - 1)
+    if first { Some(free) } else { free.checked_sub(1) }
 }
 
 // Writes the word with its dependents from the place `at` on, where there is room; returns the place behind.
@@ -57,10 +44,10 @@ fn write_word(heads: &[u8], word: usize, space: &mut [u8], at: usize) -> Result<
     ensures end { result ≡ Ok (at + length (bracketed heads.now word)) }
     ensures after { space.new ≡ written space.old at (bracketed heads.now word) }
 {
-    let mut end = put(word as u64, space, at)?;
+    let mut end = put(word, space, at)?;
     let mut first = true;
-    for i in 0..heads.len() {
-        if heads[i] as usize == word {
+    for (i, head) in heads.iter().enumerate() {
+        if usize::from(*head) == word {
             space[end] = if first { b'(' } else { b' ' };
             end = write_word(heads, i + 1, space, end + 1)?;
             first = false;

@@ -7,14 +7,11 @@ ghost use Rattle.tree.specs.Trees.{CycleFree, OnCycleRuns, RootedIsCycleFree, To
 fn head(heads: &[u8], word: u8) -> u8
     ensures { result ≡ head_of heads.now word }
 {
-    let place = word as usize;
-    if place == 0 {
-        0
-    } else if place > heads.len() {
-        0
-    } else {
-        heads[place - 1]
-    }
+    usize::from(word)
+        .checked_sub(1)
+        .and_then(|place| heads.get(place))
+        .copied()
+        .unwrap_or(0)
 }
 
 // The first word that a chain of heads meets again, or none where every chain comes to the root.
@@ -24,20 +21,20 @@ pub fn find_cycle(heads: &[u8]) -> Option<usize>
     ensures only { CycleFree heads.now → result ≡ None }
     ensures laws { (RootedIsCycleFree) × (OnCycleRuns) }
 {
-    let mut i = 0;
+    let mut words = heads.iter();
     'words: loop {
-        if i >= heads.len() {
+        let Some(first) = words.next() else {
             break 'words None;
-        }
+        };
         let mut seen = [false; 256];
-        let mut word = heads[i];
+        let mut word = *first;
         while word != 0 {
-            if seen[word as usize] {
-                break 'words Some(word as usize);
+            let place = usize::from(word);
+            if seen[place] {
+                break 'words Some(place);
             }
-            seen[word as usize] = true;
+            seen[place] = true;
             word = head(heads, word);
         }
-        i += 1;
     }
 }

@@ -4,24 +4,25 @@ ghost use Rattle.weight.specs.Text.{Shown};
 
 use crate::Kind;
 use refusal::Refusal;
+use text::{put, width};
 
 // Shows a single place.
 pub fn show_place(place: i64, space: &mut [u8]) -> Result<usize, Refusal>
     ensures { Shown (place ∷ []) space.old space.new result }
 {
-    text::put_signed(place, space, 0)
+    put(place, space, 0)
 }
 
 // Shows a place, a comma, and the places of the weight behind it.
 pub fn show_front<K: Kind>(front: i64, rest: &K, space: &mut [u8]) -> Result<usize, Refusal>
     ensures { Shown (front ∷ K.Kind.worth rest.now) space.old space.new result }
 {
-    let behind = text::signed_width(front) + 1;
+    let behind = width(front) + 1;
     if behind > space.len() {
         return Err(Refusal::ShortSpace);
     }
     let n = rest.show(&mut space[behind..])?;
-    let _ = text::put_signed(front, space, 0);
+    let _ = put(front, space, 0);
     space[behind - 1] = b',';
     Ok(behind + n)
 }
