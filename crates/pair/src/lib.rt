@@ -11,7 +11,7 @@ use refusal::Refusal;
 use std::cmp::Ordering;
 use weight::{Kind, Opens, Score, place_difference, place_sum, show_front};
 
-#[derive(Clone, Copy)]
+#[derive(Clone, Copy, PartialEq, Eq, Debug)]
 pub struct Pair {
     first: i64,
     second: i64,
@@ -66,7 +66,7 @@ impl Kind for Pair {
     }
 
     fn entry(&self) -> bool {
-        -5 <= self.first && self.first <= 5 && 0 <= self.second && self.second <= 1000
+        (-5..=5).contains(&self.first) && (0..=1000).contains(&self.second)
     }
 
     fn show(&self, space: &mut [u8]) -> Result<usize, Refusal> {
@@ -139,8 +139,8 @@ mod tests {
     fn the_widest_sum_stops_at_the_end(rt: HostRuntime) {
         let most = Score::new(i64::MAX);
         let least = Score::new(i64::MIN);
-        assert!(rt; most.sum(&most).compare(&most).is_eq());
-        assert!(rt; least.difference(&most).compare(&least).is_eq());
+        assert_eq!(rt; most.sum(&most), most);
+        assert_eq!(rt; least.difference(&most), least);
     }
 
     #[test]

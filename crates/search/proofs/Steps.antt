@@ -6,12 +6,11 @@ use Rattle.tree.specs.Chains.{Word}
 use Rattle.arborescence.specs.Sum.{sum_if}
 use Rattle.arborescence.specs.Search.{Tree, leads}
 use Rattle.weight.proofs.Worths.{plus_zeros, within_more}
-use Rattle.weight.specs.declared.root.Root.{Root}
 use Rattle.search.specs.declared.arcs.Entering.{Entering}
 use Rattle.search.specs.declared.family.Node.{Node}
 use Rattle.word_set.specs.Bits.{in_set}
 use Rattle.weight.specs.Worth.{zeros}
-use Rattle.weight.specs.Layers.{root_worth}
+use Rattle.weight.specs.Layers.{Root, root_worth}
 use Rattle.search.specs.Arcs.{Sound, potential, Best, SetArc, with_potential}
 use Rattle.search.specs.Family.{Group, rep_of, best_of, add_of, Valid}
 use Rattle.search.specs.State.{view, blank, group_at, family, State}
@@ -67,7 +66,7 @@ module _
           (NewIs : (d : ℕ) → Word n d → potential f adds' d ≡ cond (in_set S d) (minus (plus (potential f adds d) all) (best_of (group_at f words) (family (group_at f merges) made) d)) (potential f adds d))
         where
           full : (d : ℕ) → Word n d → plus (potential f adds d) (zeros (suc p)) ≡ potential f adds d
-          full d v = plus_zeros (potential f adds d) (suc p) (at_length (root_worth f) (suc p) (λ m. ap suc (sized m.0.rest)) adds d (omega arith))
+          full d v = plus_zeros (potential f adds d) (suc p) (at_length (root_worth f) (suc p) (λ m. ap suc (sized m.rest)) adds d (omega arith))
 
           agree' : (m : Group) → m.members ≡ S → (d : ℕ) → Word n d → potential f adds' d ≡ add_of n (zeros (suc p)) (group_at f words) (m ∷ family (group_at f merges) made) d
           agree' = agree_after f p n stands worth (group_at f words) (family (group_at f merges) made) state_laid (potential f adds) (potential f adds') S all full all-is NewIs state.agree

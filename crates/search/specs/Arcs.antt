@@ -2,9 +2,8 @@
 -- and weights[(d - 1) * (n + 1) + h] is its weight. The first words can be held, each at a given head.
 use Rattle.std.specs.Prelude.{◌≡◌, ℕ, ◌+◌, ◌-◌, ◌*◌, ◌^◌, ◌<◌, ◌≤◌, Bool, true, false, cond, ◌&&◌, ◌||◌, List, [], map, length, Some, None, Option, ◌==◌, nat_lt, slice_index, slice_index_or}
 use Rattle.weight.specs.Worth.{Worth, plus, at_most, AtMost, Within}
-use Rattle.weight.specs.Layers.{root_worth}
+use Rattle.weight.specs.Layers.{Root, root_worth}
 use Rattle.weight.specs.Range.{Range, entry_in}
-use Rattle.weight.specs.declared.root.Root.{Root}
 use Rattle.tree.specs.Chains.{Word, head_of}
 use Rattle.arborescence.specs.Heads.{rooted}
 use Rattle.search.specs.declared.arcs.Entering.{Entering}

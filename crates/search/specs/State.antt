@@ -5,9 +5,8 @@ use Rattle.tree.specs.Chains.{Word, up, Reaches}
 use Rattle.arborescence.specs.Search.{Tree, Into, Covers}
 use Rattle.search.specs.declared.family.Node.{Node}
 use Rattle.word_set.specs.Bits.{in_set}
-use Rattle.weight.specs.declared.root.Root.{Root}
 use Rattle.weight.specs.Worth.{zeros}
-use Rattle.weight.specs.Layers.{root_worth}
+use Rattle.weight.specs.Layers.{Root, root_worth}
 use Rattle.search.specs.Arcs.{potential}
 use Rattle.search.specs.Family.{Group, from_of, add_of, Valid}
 

@@ -9,19 +9,16 @@ ghost use Rattle.weight.specs.Text.{Shown, TextLaws};
 use refusal::Refusal;
 use std::cmp::Ordering;
 
-mod cost;
-mod front;
-mod mark;
-mod root;
-mod score;
+mod layer;
 mod showing;
+mod single;
+mod span;
 mod sums;
 
-pub use cost::Cost;
-pub use mark::Mark;
-pub use root::Root;
-pub use score::Score;
+pub use layer::{Layer, Mark, Root};
 pub use showing::{show_front, show_place};
+pub use single::{Cost, Score, Single};
+pub use span::{CostSpan, MarkSpan, RootSpan, ScoreSpan, Span};
 pub use sums::{place_difference, place_sum};
 
 // A kind of weight: its five rules are nothing, sum with difference, comparison, entry and showing.

@@ -1,0 +1,95 @@
+// Weights of one place, which lies in the span `S`.
+ghost use Rattle.std.specs.Prelude.{◌≡◌, [], ◌∷◌, pos, neg_ℤ, refl};
+ghost use Rattle.std.proofs.Common.{lit≤};
+ghost use Rattle.weight.specs.Numbers.{single_worth, score_worth, cost_worth};
+
+use crate::span::{CostSpan, ScoreSpan, Span};
+use crate::{Kind, Opens, place_difference, place_sum, show_place};
+use refusal::Refusal;
+use std::cmp::Ordering;
+use std::marker::PhantomData;
+
+#[derive(Clone, Copy, PartialEq, Eq, Debug)]
+pub struct Single<S> {
+    value: i64,
+    of: PhantomData<S>,
+}
+
+// A score: −1,000,000 to 1,000,000.
+pub type Score = Single<ScoreSpan>;
+
+// A cost: the negative of a cost from 0 to 1,000,000, so that the least cost outweighs.
+pub type Cost = Single<CostSpan>;
+
+impl Score {
+    pub fn new(value: i64) -> Score
+        ensures { score_worth result ≡ value ∷ [] }
+    {
+        Single {
+            value,
+            of: PhantomData,
+        }
+    }
+}
+
+impl Cost {
+    pub fn new(cost: u32) -> Cost
+        ensures { cost_worth result ≡ neg_ℤ (pos cost) ∷ [] }
+    {
+        Single {
+            value: -i64::from(cost),
+            of: PhantomData,
+        }
+    }
+}
+
+impl<S: Span> Kind for Single<S> {
+    ghost places = { 1 };
+
+    ghost some = { lit≤ tt };
+
+    ghost ranges = { record { least = S.LEAST; greatest = S.GREATEST } ∷ [] };
+
+    ghost ranged = { (refl, S.ranged) };
+
+    ghost worth = { single_worth };
+
+    ghost sized = { λ x. refl };
+
+    fn nothing() -> Single<S> {
+        Single {
+            value: 0,
+            of: PhantomData,
+        }
+    }
+
+    fn sum(&self, other: &Single<S>) -> Single<S> {
+        Single {
+            value: place_sum(self.value, other.value),
+            of: PhantomData,
+        }
+    }
+
+    fn difference(&self, other: &Single<S>) -> Single<S> {
+        Single {
+            value: place_difference(self.value, other.value),
+            of: PhantomData,
+        }
+    }
+
+    fn compare(&self, other: &Single<S>) -> Ordering {
+        self.value.cmp(&other.value)
+    }
+
+    fn entry(&self) -> bool {
+        (S::LEAST..=S::GREATEST).contains(&self.value)
+    }
+
+    fn show(&self, space: &mut [u8]) -> Result<usize, Refusal> {
+        show_place(self.value, space)
+    }
+}
+
+impl Opens for Score {}
+
+impl Opens for Cost {}
