@@ -1,7 +1,12 @@
-// All the memory of a sheet of up to 40 words, for programs and tests on a machine with a heap.
+// What programs and tests on a machine with a heap work with: all the memory of a sheet of up to 40 words, and random numbers.
 #![tactic(auto)]
 
+mod lent;
 mod memory;
-mod searching;
+mod random;
 
 pub use memory::Memory;
+pub use random::Random;
+
+#[cfg(test)]
+mod tests;

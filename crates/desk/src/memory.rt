@@ -1,8 +1,11 @@
 // The memory of a sheet, and the calls that work in it.
 ghost use Rattle.std.specs.Prelude.{◌≡◌, ℕ, ◌+◌, length, replicate, is_some, IfOk, Some, None, vec_len};
 
-use crate::searching::{search_in, search_barring_in};
+use crate::lent::{run_in, search_barring_in, search_in, take_in};
+use file::{FileFault, Recorded};
+use ranking::{Ranking, Taken};
 use refusal::Refusal;
+use run::{Call, Turn};
 use search::Node;
 use sheet::{Candidate, Sheet, Spare};
 use std::alloc::{AllocError, Global};
@@ -23,7 +26,9 @@ pub struct Memory<K> {
 }
 
 impl<K: Opens + Copy> Memory<K> {
-    ghost use Rattle.desk.specs.Parts.{lengths_in, parts_of};
+    ghost use Rattle.desk.specs.Parts.{parts_of};
+    ghost use Rattle.ranking.specs.Calls.{Took, lengths_of};
+    ghost use Rattle.run.specs.Steps.{Ran, run_check};
     ghost use Rattle.search.specs.Answer.{Searched, barring};
     ghost use Rattle.search.specs.Arcs.{allowed, weight_at};
     ghost use Rattle.search.specs.State.{Room};
@@ -48,7 +53,7 @@ impl<K: Opens + Copy> Memory<K> {
 
     // Opens a sheet.
     pub fn open(&mut self, words: usize) -> Result<Sheet<K>, Refusal>
-        ensures answer { Answered (open_check words (lengths_in self.old)) result (self.new.sets.items ≡ self.old.sets.items) (IfOk result (λ s. s.words ≡ words) × Holds words no_arcs self.old.weights.items self.new.weights.items self.old.sets.items self.new.sets.items) }
+        ensures answer { Answered (open_check words (lengths_of (parts_of self.old))) result (self.new.sets.items ≡ self.old.sets.items) (IfOk result (λ s. s.words ≡ words) × Holds words no_arcs self.old.weights.items self.new.weights.items self.old.sets.items self.new.sets.items) }
         ensures others { parts_of self.new ≡ record (parts_of self.old) { sets = self.new.sets.items } }
     {
         sheet::open(
@@ -147,6 +152,79 @@ impl<K: Opens + Copy> Memory<K> {
             self.merges.as_mut_slice(),
             self.potentials.as_mut_slice(),
             heads,
+        )
+    }
+
+    // Takes a tree of the ranking: its heads go to the front of the space.
+    pub fn take(
+        &mut self,
+        ranking: &mut Ranking<K>,
+        space: &mut [u8],
+    ) -> Result<Taken<K>, Refusal>
+        ensures { Took K.Kind.worth K.Kind.ranges ranking.old ranking.new (parts_of self.old) (parts_of self.new) space.old space.new result }
+    {
+        take_in(
+            ranking,
+            self.weights.as_slice(),
+            self.sets.as_mut_slice(),
+            self.candidates.as_mut_slice(),
+            self.nodes.as_mut_slice(),
+            self.merges.as_mut_slice(),
+            self.potentials.as_mut_slice(),
+            space,
+        )
+    }
+
+    // Opens a sheet of so many words, makes the calls in their order, and notes each with its answer.
+    pub fn run(
+        &mut self,
+        words: usize,
+        calls: &[Call<K>],
+        turns: &mut [Turn<K>],
+    ) -> Result<(), Refusal>
+        ensures { Answered (run_check words (lengths_of (parts_of self.old)) (length calls.now) (length turns.old)) result ((parts_of self.new ≡ parts_of self.old) × (turns.new ≡ turns.old)) (Ran K.Kind.worth K.Kind.ranges words calls.now (parts_of self.old) (parts_of self.new) turns.old turns.new) }
+    {
+        run_in(
+            words,
+            calls,
+            self.weights.as_mut_slice(),
+            self.sets.as_mut_slice(),
+            self.candidates.as_mut_slice(),
+            self.nodes.as_mut_slice(),
+            self.merges.as_mut_slice(),
+            self.potentials.as_mut_slice(),
+            turns,
+        )
+    }
+
+    // Fills the working space with another weight.
+    pub fn litter(&mut self, weight: K)
+        ensures { parts_of self.new ≡ record (parts_of self.old) { nodes = self.new.nodes.items; merges = self.new.merges.items; potentials = self.new.potentials.items } }
+    {
+        self.nodes.fill(Node::new(weight));
+        self.merges.fill(Node::new(weight));
+        self.potentials.fill(Root::new(0, weight));
+    }
+}
+
+impl<K: Recorded + Copy> Memory<K> {
+    ghost use Rattle.file.specs.Reading.{ReadAs};
+
+    // Reads a file of the kind: opens a sheet and puts the file's records on it.
+    pub fn read(&mut self, file: &[u8]) -> Result<Sheet<K>, FileFault>
+        ensures answer { ReadAs K.format (lengths_of (parts_of self.old)) file.now result self.old.weights.items self.new.weights.items self.old.sets.items self.new.sets.items }
+        ensures others { parts_of self.new ≡ record (parts_of self.old) { weights = self.new.weights.items; sets = self.new.sets.items } }
+    {
+        file::read(
+            file,
+            self.weights.as_mut_slice(),
+            self.sets.as_mut_slice(),
+            Spare {
+                candidates: self.candidates.as_slice(),
+                nodes: self.nodes.as_slice(),
+                merges: self.merges.as_slice(),
+                potentials: self.potentials.as_slice(),
+            },
         )
     }
 }

@@ -1,0 +1,109 @@
+// The calls that are lent their memory in a struct, over a slice for each part.
+ghost use Rattle.std.specs.Prelude.{◌≡◌, ℕ, ◌+◌, length};
+ghost use Rattle.ranking.specs.Calls.{Took};
+ghost use Rattle.ranking.specs.Memory.{Memory as Parts};
+ghost use Rattle.ranking.specs.Calls.{lengths_of};
+ghost use Rattle.run.specs.Steps.{Ran, run_check};
+ghost use Rattle.search.specs.Answer.{Searched, barring};
+ghost use Rattle.search.specs.Arcs.{allowed, weight_at};
+ghost use Rattle.search.specs.State.{Room};
+ghost use Rattle.sheet.specs.Calls.{Answered};
+
+use ranking::{Ranking, Taken, take};
+use refusal::Refusal;
+use run::{Call, Turn, run};
+use search::{Node, Working, best_tree, best_tree_barring};
+use sheet::Candidate;
+use weight::{Kind, Opens, Root};
+
+// The heaviest tree over the arcs that stand.
+pub(crate) fn search_in<K: Kind + Copy>(
+    words: usize,
+    sets: &[u64],
+    weights: &[K],
+    held: &[u8],
+    nodes: &mut [Node<K>],
+    merges: &mut [Node<K>],
+    potentials: &mut [Root<K>],
+    heads: &mut [u8],
+) -> Result<Option<K>, Refusal>
+    ensures { Searched K.Kind.worth K.Kind.ranges words (allowed sets.now held.now) (weight_at K.Kind.worth words weights.now) (Room words (length sets.now) (length weights.now) (length nodes.old) (length merges.old) (length potentials.old)) heads.old heads.new result }
+{
+    let working = &mut Working {
+        nodes,
+        merges,
+        potentials,
+    };
+    best_tree(words, sets, weights, held, working, heads)
+}
+
+// The same without the arcs from the barred heads into the first word that is not held.
+pub(crate) fn search_barring_in<K: Kind + Copy>(
+    words: usize,
+    sets: &mut [u64],
+    weights: &[K],
+    held: &[u8],
+    barred: u64,
+    nodes: &mut [Node<K>],
+    merges: &mut [Node<K>],
+    potentials: &mut [Root<K>],
+    heads: &mut [u8],
+) -> Result<Option<K>, Refusal>
+    ensures kept { sets.new ≡ sets.old }
+    ensures told { Searched K.Kind.worth K.Kind.ranges words (barring (allowed sets.old held.now) (length held.now + 1) barred) (weight_at K.Kind.worth words weights.now) (Room words (length sets.old) (length weights.now) (length nodes.old) (length merges.old) (length potentials.old)) heads.old heads.new result }
+{
+    let working = &mut Working {
+        nodes,
+        merges,
+        potentials,
+    };
+    best_tree_barring(words, sets, weights, held, barred, working, heads)
+}
+
+// Takes a tree of the ranking.
+pub(crate) fn take_in<K: Opens + Copy>(
+    ranking: &mut Ranking<K>,
+    weights: &[K],
+    sets: &mut [u64],
+    candidates: &mut [Candidate<K>],
+    nodes: &mut [Node<K>],
+    merges: &mut [Node<K>],
+    potentials: &mut [Root<K>],
+    space: &mut [u8],
+) -> Result<Taken<K>, Refusal>
+    ensures { Took K.Kind.worth K.Kind.ranges ranking.old ranking.new (record { weights = weights.now; sets = sets.old; candidates = candidates.old; nodes = nodes.old; merges = merges.old; potentials = potentials.old }) (record { weights = weights.now; sets = sets.new; candidates = candidates.new; nodes = nodes.new; merges = merges.new; potentials = potentials.new }) space.old space.new result }
+{
+    let working = &mut Working {
+        nodes,
+        merges,
+        potentials,
+    };
+    take(ranking, weights, sets, candidates, working, space)
+}
+
+// Makes the calls on a fresh sheet of so many words.
+pub(crate) fn run_in<K: Opens + Copy>(
+    words: usize,
+    calls: &[Call<K>],
+    weights: &mut [K],
+    sets: &mut [u64],
+    candidates: &mut [Candidate<K>],
+    nodes: &mut [Node<K>],
+    merges: &mut [Node<K>],
+    potentials: &mut [Root<K>],
+    turns: &mut [Turn<K>],
+) -> Result<(), Refusal>
+    ensures { Answered (run_check words (lengths_of (parts weights.old sets.old candidates.old nodes.old merges.old potentials.old)) (length calls.now) (length turns.old)) result ((parts weights.new sets.new candidates.new nodes.new merges.new potentials.new ≡ parts weights.old sets.old candidates.old nodes.old merges.old potentials.old) × (turns.new ≡ turns.old)) (Ran K.Kind.worth K.Kind.ranges words calls.now (parts weights.old sets.old candidates.old nodes.old merges.old potentials.old) (parts weights.new sets.new candidates.new nodes.new merges.new potentials.new) turns.old turns.new) }
+{
+    let memory = &mut run::Memory {
+        weights,
+        sets,
+        candidates,
+        working: Working {
+            nodes,
+            merges,
+            potentials,
+        },
+    };
+    run(words, calls, memory, turns)
+}
