@@ -3,6 +3,7 @@
 // too short a space is refused and left as it was.
 #![tactic(auto)]
 
+ghost use Rattle.lines.specs.Ends.{ToldEnd};
 ghost use Rattle.lines.specs.Lines.{tree_text, last_text, refused_text, ToldFields};
 ghost use Rattle.text.specs.Space.{Placed};
 
@@ -22,6 +23,22 @@ pub enum Last {
     NoMore,
     // fifty trees were taken
     Fifty,
+}
+
+// The end that a refused take tells. Any other refusal tells no end, and is given back.
+impl TryFrom<Refusal> for Last {
+    type Error = Refusal;
+
+    ghost try_from_gives = { ToldEnd };
+
+    fn try_from(why: Refusal) -> Result<Last, Refusal> {
+        match why {
+            Refusal::NoTree => Ok(Last::NoTree),
+            Refusal::NoMore => Ok(Last::NoMore),
+            Refusal::Fifty => Ok(Last::Fifty),
+            _ => Err(why),
+        }
+    }
 }
 
 // The line of a tree: its number in the ranking, its weight and its heads.

@@ -11,15 +11,15 @@ use text::{put, width};
 use weight::Kind;
 
 // The room for the weight between the rest of the line, or none where no weight fits; the TABs and the end take three bytes.
-pub fn weight_room(number: usize, heads: &[u8], len: usize) -> Option<usize>
+pub(crate) fn weight_room(number: usize, heads: &[u8], len: usize) -> Option<usize>
     ensures { MatchOption result ((a : Worth) → len < length (tree_text number a heads.now)) (λ room. length (before_weight number) + (room + length (behind_weight heads.now)) ≡ len) }
 {
-    let room = len.checked_sub(width(number as u64) + 3)?;
+    let room = len.checked_sub(width(number) + 3)?;
     room_behind(heads, room)
 }
 
 // Writes the line, whose weight has just this room.
-pub fn write_tree<K: Kind>(
+pub(crate) fn write_tree<K: Kind>(
     number: usize,
     weight: &K,
     heads: &[u8],
@@ -29,7 +29,7 @@ pub fn write_tree<K: Kind>(
     requires { length (before_weight number) + (room + length (behind_weight heads.now)) ≡ length space.old }
     ensures { Placed (tree_text number (K.Kind.worth weight.now) heads.now) space.old 0 result space.new }
 {
-    let front = width(number as u64) + 1;
+    let front = width(number) + 1;
     let shown = weight.show(&mut space[front..front + room])?;
     write_around(number, heads, front + shown, space)
 }
@@ -41,7 +41,7 @@ fn write_around(number: usize, heads: &[u8], at: usize, space: &mut [u8]) -> Res
     ensures end { result ≡ Ok (at + length (behind_weight heads.now)) }
     ensures after { space.new ≡ written (written space.old 0 (before_weight number)) at (behind_weight heads.now) }
 {
-    let tab = put(number as u64, space, 0)?;
+    let tab = put(number, space, 0)?;
     space[tab] = b'\t';
     space[at] = b'\t';
     let end = write_spaced(heads, space, at + 1)?;

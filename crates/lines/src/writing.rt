@@ -8,7 +8,7 @@ use text::{put, width};
 
 // Writes the bytes from the place `at` on; returns the place behind them.
 // Too short a space is refused and left as it was.
-pub fn put_bytes(bytes: &[u8], space: &mut [u8], at: usize) -> Result<usize, Refusal>
+pub(crate) fn put_bytes(bytes: &[u8], space: &mut [u8], at: usize) -> Result<usize, Refusal>
     ensures { Placed bytes.now space.old at result space.new }
 {
     if at > space.len() || space.len() - at < bytes.len() {
@@ -20,21 +20,21 @@ pub fn put_bytes(bytes: &[u8], space: &mut [u8], at: usize) -> Result<usize, Ref
 }
 
 // What is left of the room behind the numbers with one blank between, or none where their text is longer.
-pub fn room_behind(numbers: &[u8], room: usize) -> Option<usize>
+pub(crate) fn room_behind(numbers: &[u8], room: usize) -> Option<usize>
     ensures { MatchOption result (room < length (spaced numbers.now)) (λ free. free + length (spaced numbers.now) ≡ room) }
 {
     let [first, rest @ ..] = numbers else {
         return Some(room);
     };
-    let mut free = room.checked_sub(width(*first as u64))?;
+    let mut free = room.checked_sub(width(*first))?;
     for number in rest {
-        free = free.checked_sub(width(*number as u64) + 1)?;
+        free = free.checked_sub(width(*number) + 1)?;
     }
     Some(free)
 }
 
 // Writes the numbers with one blank between from the place `at` on, where there is room; returns the place behind.
-pub fn write_spaced(numbers: &[u8], space: &mut [u8], at: usize) -> Result<usize, Refusal>
+pub(crate) fn write_spaced(numbers: &[u8], space: &mut [u8], at: usize) -> Result<usize, Refusal>
     requires { at + length (spaced numbers.now) ≤ length space.old }
     ensures end { result ≡ Ok (at + length (spaced numbers.now)) }
     ensures after { space.new ≡ written space.old at (spaced numbers.now) }
@@ -42,10 +42,10 @@ pub fn write_spaced(numbers: &[u8], space: &mut [u8], at: usize) -> Result<usize
     let [first, rest @ ..] = numbers else {
         return Ok(at);
     };
-    let mut end = put(*first as u64, space, at)?;
+    let mut end = put(*first, space, at)?;
     for number in rest {
         space[end] = b' ';
-        end = put(*number as u64, space, end + 1)?;
+        end = put(*number, space, end + 1)?;
     }
     Ok(end)
 }

@@ -2,7 +2,8 @@
 #![tactic(auto)]
 
 ghost use Rattle.penbracket.specs.Drawing.{Told};
-ghost use Rattle.std.specs.Prelude.{IfOk};
+ghost use Rattle.penbracket.specs.declared.Fault.TheVariants.{Memory};
+ghost use Rattle.std.specs.Prelude.{◌≡◌};
 
 use reading::read_spaced;
 use refusal::Refusal;
@@ -11,70 +12,83 @@ use std::io;
 use std::io::{BufRead, BufReader};
 use tree::{check_heads, find_cycle, write_brackets};
 
-// What came of a line of heads.
+// A tree that was drawn: its heads, the word on the root, and its brackets.
 #[derive(Drop)]
-pub enum Drawing {
+pub struct Drawing {
+    heads: Vec<u8>,
+    root: usize,
+    brackets: Vec<u8>,
+}
+
+// Why a line of heads is not drawn.
+#[derive(Drop)]
+pub enum Fault {
     // the line is no list of numbers
     NoList,
     // its heads form no single-root tree
     NoTree(Vec<u8>),
-    // the brackets of its heads are longer than the space
+    // the brackets of its heads are longer than 160 bytes
     TooLong(Vec<u8>),
-    // its heads, the word on the root, and the brackets in a space, with their length
-    Drawn(Vec<u8>, usize, [u8; 160], usize),
+    // there is no memory
+    Memory(AllocError),
+}
+
+impl From<AllocError> for Fault {
+    ghost from_gives = { λ error fault. fault ≡ Memory error };
+
+    fn from(error: AllocError) -> Fault {
+        Fault::Memory(error)
+    }
 }
 
 // Reads the heads of a line, checks them and draws their tree.
-fn draw(heap: Global, line: &[u8]) -> Result<Drawing, AllocError>
-    ensures { IfOk result (λ d. Told line.now d) }
+fn draw(heap: Global, line: &[u8]) -> Result<Drawing, Fault>
+    ensures { Told line.now result }
 {
-    let Some(heads) = read_spaced(heap, line)? else {
-        return Ok(Drawing::NoList);
-    };
+    let heads = read_spaced(heap, line)?.ok_or(Fault::NoList)?;
     let Ok(root) = check_heads(heads.as_slice()) else {
-        return Ok(Drawing::NoTree(heads));
+        return Err(Fault::NoTree(heads));
     };
-    let mut space = [0; 160];
-    match write_brackets(heads.as_slice(), &mut space) {
-        Ok(len) => Ok(Drawing::Drawn(heads, root, space, len)),
-        Err(_) => Ok(Drawing::TooLong(heads)),
-    }
+    let mut brackets = vec![in heap; 0; 160]?;
+    let Ok(len) = write_brackets(heads.as_slice(), brackets.as_mut_slice()) else {
+        return Err(Fault::TooLong(heads));
+    };
+    brackets.truncate(len);
+    Ok(Drawing {
+        heads,
+        root,
+        brackets,
+    })
 }
 
 // Prints the steps of one line.
 fn print_steps(rt: &HostRuntime, line: &[u8]) -> io::Result<()> {
-    match draw(rt.alloc(), line)? {
-        Drawing::NoList => {
-            print_text(rt, "line", line)?;
-            refuse(rt, "no list of heads")
+    let not_a_tree = Refusal::NotATree;
+    match draw(rt.alloc(), line) {
+        Ok(drawing) => {
+            print_heads(rt, line, drawing.heads.len())?;
+            let root = drawing.root;
+            println!(rt; "root: {root}")?;
+            print_text(rt, "brackets", drawing.brackets.as_slice())
         }
-        Drawing::NoTree(heads) => {
+        Err(Fault::NoList) => {
+            print_text(rt, "line", line)?;
+            println!(rt; "{not_a_tree}: no list of heads")
+        }
+        Err(Fault::NoTree(heads)) => {
             print_heads(rt, line, heads.len())?;
             match find_cycle(heads.as_slice()) {
-                Some(word) => {
-                    let number = Refusal::NotATree.number();
-                    println!(rt; "refused {number}: word {word} lies on a cycle")
-                }
-                None => refuse(rt, "no single-root tree of 1 to 40 words"),
+                Some(word) => println!(rt; "{not_a_tree}: word {word} lies on a cycle"),
+                None => println!(rt; "{not_a_tree}: no single-root tree of 1 to 40 words"),
             }
         }
-        Drawing::TooLong(heads) => {
+        Err(Fault::TooLong(heads)) => {
             print_heads(rt, line, heads.len())?;
-            let number = Refusal::ShortSpace.number();
-            println!(rt; "refused {number}: the brackets are too long")
+            let short_space = Refusal::ShortSpace;
+            println!(rt; "{short_space}: the brackets are too long")
         }
-        Drawing::Drawn(heads, root, space, len) => {
-            print_heads(rt, line, heads.len())?;
-            println!(rt; "root: {root}")?;
-            print_text(rt, "brackets", space.get(..len).unwrap_or(&[]))
-        }
+        Err(Fault::Memory(error)) => Err(error.into()),
     }
-}
-
-// Prints that the line is refused as no tree, and why.
-fn refuse(rt: &HostRuntime, why: &str) -> io::Result<()> {
-    let number = Refusal::NotATree.number();
-    println!(rt; "refused {number}: {why}")
 }
 
 // Prints the heads that were read and how many words they have.

@@ -13,10 +13,6 @@ abbrev pub depth_by : ℕ → List ℕ → ℕ → ℕ
 depth_by zero heads w = 0
 depth_by (suc k) heads w = cond (eqb w 0) 0 (1 + depth_by k heads (head_of heads w))
 
-depth_root : (k : ℕ) (heads : List ℕ) → depth_by k heads 0 ≡ 0
-depth_root zero heads = refl
-depth_root (suc k) heads = refl
-
 depth_word : (k : ℕ) (heads : List ℕ) (w : ℕ) → 0 < w → depth_by (suc k) heads w ≡ 1 + depth_by k heads (head_of heads w)
 depth_word k heads w h = ap (λ t. cond t 0 (1 + depth_by k heads (head_of heads w))) (ne_eqb w 0 (λ e. omega (arith, e, h)))
 

@@ -1,12 +1,8 @@
 -- Lists of heads looked at word by word.
-use Rattle.std.proofs.Common.{◌≡◌, ℕ, zero, suc, ◌<◌, ◌≤◌, true, false, List, length, get_or, is_some, Some, None, Option, refl, arith}
+use Rattle.std.proofs.Common.{◌≡◌, ℕ, suc, ◌<◌, ◌≤◌, true, false, List, length, get_or, is_some, Some, None, Option, refl, arith}
 use Rattle.std.proofs.lemmas.Bool.{both_ways}
 use Rattle.tree.specs.Chains.{Word, head_of}
 use Rattle.tree.specs.Trees.{CycleFree, OnlyRoot, ToldCycle, LineTree}
-
-pub all_in_line : (heads : List ℕ) (i : ℕ) → length heads ≤ i → ((k : ℕ) → k < i → get_or heads k 0 ≤ length heads) → (w : ℕ) → Word (length heads) w → head_of heads w ≤ length heads
-all_in_line heads i past below zero word = absurd (omega (arith, word.0))
-all_in_line heads i past below (suc k) word = below k (omega (arith, word.1))
 
 pub one_above : (heads : List ℕ) (i : ℕ) → i < length heads → length heads < get_or heads i 0 → ((w : ℕ) → Word (length heads) w → head_of heads w ≤ length heads) → ⊥
 one_above heads i h above all = let le : get_or heads i 0 ≤ length heads = all (suc i) (omega arith, omega arith) in omega arith

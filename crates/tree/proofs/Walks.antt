@@ -1,8 +1,7 @@
 -- The walk along chains of heads that marks the words it meets.
 use Rattle.std.specs.List.{AllByRecursion}
-use Rattle.std.proofs.Common.{◌≡◌, ℕ, zero, suc, ◌<◌, ◌≤◌, Bool, true, false, cond, List, [], ◌∷◌, length, get_or, set, replicate, sum_by, sym, refl, ap, ◌∙◌, subst, ⊎_elim, arith}
+use Rattle.std.proofs.Common.{◌≡◌, ℕ, zero, suc, ◌<◌, Bool, true, false, List, [], ◌∷◌, length, get_or, set, replicate, sym, refl, ap, ◌∙◌, subst, ⊎_elim, arith}
 use Rattle.std.proofs.lemmas.List.{get_or_past, get_or-replicate, get_or-set_other}
-use Rattle.std.proofs.lemmas.List.Sums.{sum_by-set}
 use Rattle.std.proofs.lemmas.Bool.{cases_lt, cases_eq, both_ways}
 use Rattle.tree.proofs.Chains.{arrives, never_again, up_root}
 use Rattle.tree.specs.Chains.{Word, head_of, up, Reaches, OnCycle}
@@ -32,13 +31,6 @@ leads_more heads seen w p next e is leads x h =
     let was = leads x (sym (get_or-set_other seen p x true false ne) ∙ h) in
     (suc was.0, up_head (head_of heads) (suc was.0) x ∙ ap (head_of heads) was.1 ∙ sym is))
     (cases_eq x p)
-
--- a mark more leaves fewer to make
-pub fewer : (seen : List Bool) (w : ℕ) → w < length seen → get_or seen w false ≡ false → sum_by (λ b. cond b 0 1) (set seen w true) < sum_by (λ b. cond b 0 1) seen
-fewer seen w h not_yet =
-    let s = sum_by-set (λ b. cond b 0 1) seen w true false h in
-    let one : cond {A = ℕ} (get_or seen w false) 0 1 ≡ 1 = ap (λ (b : Bool). cond {A = ℕ} b 0 1) not_yet in
-    omega arith
 
 -- the head of a word comes to the root, and so does the word
 pub one_more : (heads : List ℕ) (w next : ℕ) → next ≡ head_of heads w → Reaches (head_of heads) next → Reaches (head_of heads) w

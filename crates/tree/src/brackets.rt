@@ -34,10 +34,15 @@ fn room_behind(heads: &[u8], word: usize, room: usize) -> Option<usize>
             first = false;
         }
     }
-    if first { Some(free) } else { free.checked_sub(1) }
+    if first {
+        Some(free)
+    } else {
+        free.checked_sub(1)
+    }
 }
 
 // Writes the word with its dependents from the place `at` on, where there is room; returns the place behind.
+#[tactic(auto, using(crate::proofs::Depths::length_bracketed, crate::proofs::Rests::length_rest, crate::proofs::Rests::rest_none, crate::proofs::Rests::rest_last))]
 fn write_word(heads: &[u8], word: usize, space: &mut [u8], at: usize) -> Result<usize, Refusal>
     requires rooted { Rooted heads.now }
     requires fits { at + length (bracketed heads.now word) ≤ length space.old }

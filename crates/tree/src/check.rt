@@ -12,9 +12,7 @@ fn in_line(heads: &[u8]) -> bool
     ensures yes { result ≡ true → (w : ℕ) → Word (length heads.now) w → head_of heads.now w ≤ length heads.now }
     ensures no { result ≡ false → ((w : ℕ) → Word (length heads.now) w → head_of heads.now w ≤ length heads.now) → ⊥ }
 {
-    heads
-        .iter()
-        .all(|head| usize::from(*head) <= heads.len())
+    heads.iter().all(|head| usize::from(*head) <= heads.len())
 }
 
 // The only word on the root; none where no word or more than one hangs there.

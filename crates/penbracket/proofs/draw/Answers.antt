@@ -1,12 +1,15 @@
-use Rattle.penbracket.proofs.Draws.{drawn_text}
+use Rattle.penbracket.proofs.Draws.{drawn_text, cut_text}
 use Rattle.penbracket.proofs.draw.Goals as goal
-use Rattle.std.proofs.Common.{Ok, vec_items, subst, rules}
+use Rattle.std.proofs.Common.{Ok, vec_items, ◌∙◌, subst, rules}
 use Rattle.tree.specs.Brackets.{Drawn}
 use Rattle.tree.specs.Trees.{LineTree}
 
-pub returns-in-Ok-write_brackets : goal.returns-in-Ok-write_brackets
-returns-in-Ok-write_brackets c =
-    let heads = vec_items c.in-Some.heads in
+pub returns : goal.returns
+returns c =
+    let heads = vec_items c.in_ok-heads.heads in
     let root = c.in-Ok.root in
+    let len = c.in-Ok-write_brackets.len in
+    let after = c.write_brackets.new.space in
     let tree : LineTree heads root = subst (λ l. LineTree l root) c.as_slice.ensures.value c.in-Ok.ensures in
-    (search rules, tree, drawn_text heads _ c.write_brackets.new.space root c.in-Ok-write_brackets.len tree (subst (λ l. Drawn l _ (Ok c.in-Ok-write_brackets.len) c.write_brackets.new.space) c.as_slice-2.ensures.value c.in-Ok-write_brackets.ensures.drawn))
+    let text = drawn_text heads c.as_mut_slice.result.now after root len tree (subst (λ l. Drawn l c.as_mut_slice.result.now (Ok len) after) c.as_slice-2.ensures.value c.in-Ok-write_brackets.ensures.drawn) in
+    (search rules, tree, c.truncate.ensures.items ∙ cut_text after _ _ c.in_ok-brackets.brackets.len len (search rules) text, search rules)

@@ -1,7 +1,6 @@
-use Rattle.tree.proofs.Walks.{Leads, leads_none, leads_more, fewer, one_more, none_left, all_cycle_free, met_again, cycle_word, no_longer_free, rooted_is_cycle_free, on_cycle_runs}
+use Rattle.tree.proofs.Walks.{leads_none, leads_more, one_more, none_left, all_cycle_free, met_again, cycle_word, no_longer_free, rooted_is_cycle_free, on_cycle_runs}
 use Rattle.tree.proofs.cycle.find_cycle.Goals as goal
-use Rattle.tree.specs.Chains.{Reaches, head_of}
-use Rattle.std.proofs.Common.{sym, refl, subst, rules}
+use Rattle.std.proofs.Common.{sym, subst, rules}
 use Rattle.std.specs.List.{AllByRecursion}
 
 pub words-init : goal.words-init

@@ -1,4 +1,4 @@
-use Rattle.std.proofs.Common.{◌≡◌, ℕ, ◌<◌, cond, length, sum_by}
+use Rattle.std.proofs.Common.{◌≡◌, ◌<◌, cond, length, sum_by}
 use Rattle.std.specs.List.{AllByRecursion}
 use Rattle.tree.proofs.Walks.{Leads}
 use Rattle.tree.proofs.cycle.find_cycle.Given as goal
