@@ -2,13 +2,10 @@
 use Rattle.std.specs.Prelude.{ℕ, ◌+◌, ◌*◌, Bool, List, [], ◌∷◌, ℤ, pos, neg_ℤ, slice_index}
 use Rattle.file.specs.declared.fault.FileKind.TheVariants.{Score as ScoreFile, Cost as CostFile, Mark as MarkFile}
 use Rattle.file.specs.declared.fault.FileKind.{FileKind}
-use Rattle.weight.specs.Layers.{mark_worth}
-use Rattle.weight.specs.Numbers.{score_worth, cost_worth}
+use Rattle.weight.specs.Layers.{Mark, layer, mark_worth}
+use Rattle.weight.specs.Numbers.{Score, Cost, single, score_worth, cost_worth}
 use Rattle.weight.specs.Range.{Range, entry_in}
 use Rattle.weight.specs.Worth.{Worth}
-use Rattle.weight.specs.declared.cost.Cost.{Cost}
-use Rattle.weight.specs.declared.mark.Mark.{Mark}
-use Rattle.weight.specs.declared.score.Score.{Score}
 use Rattle.std.specs.Int.{w32}
 use Rattle.std.proofs.Common.{to_z}
 
@@ -31,13 +28,13 @@ abbrev pub signed_at : List ℕ → ℕ → ℤ
 signed_at file at = to_z w32 (number_at file at)
 
 abbrev pub score_at : List ℕ → ℕ → Score
-score_at file at = record { value = signed_at file at }
+score_at file at = single (signed_at file at)
 
 abbrev pub cost_at : List ℕ → ℕ → Cost
-cost_at file at = record { value = neg_ℤ (pos (number_at file at)) }
+cost_at file at = single (neg_ℤ (pos (number_at file at)))
 
 abbrev pub mark_at : List ℕ → ℕ → Mark Score
-mark_at file at = record { 0 = record { place = pos (slice_index file at); rest = score_at file (at + 1) } }
+mark_at file at = layer (pos (slice_index file at)) (score_at file (at + 1))
 
 -- from −1,000,000 to 1,000,000
 abbrev pub score_range : Range
