@@ -1,5 +1,3 @@
-mod Bytes
 mod Steps
-mod Frames
 mod Fills
 mod Lasts

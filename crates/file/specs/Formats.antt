@@ -1,5 +1,5 @@
 -- How the weights of each kind lie in a record.
-use Rattle.std.specs.Prelude.{ℕ, ◌+◌, ◌*◌, Bool, List, [], ◌∷◌, ℤ, pos, neg_ℤ, slice_index}
+use Rattle.std.specs.Prelude.{ℕ, ◌+◌, ◌*◌, Bool, cond, List, [], ◌∷◌, length, Some, None, Option, ℤ, pos, neg_ℤ, nat_le, slice_index}
 use Rattle.file.specs.declared.fault.FileKind.TheVariants.{Score as ScoreFile, Cost as CostFile, Mark as MarkFile}
 use Rattle.file.specs.declared.fault.FileKind.{FileKind}
 use Rattle.weight.specs.Layers.{Mark, layer, mark_worth}
@@ -18,6 +18,10 @@ pub record Format (K : Type 0) : Type 0 where
   pub weight_at : List ℕ → ℕ → K
   -- whether a sheet takes the weight
   pub entry : K → Bool
+
+-- the weight in the bytes from a place on, if they are all there
+abbrev pub weight_in : {K : Type 0} → Format K → List ℕ → ℕ → Option K
+weight_in f file at = cond (nat_le (at + f.width) (length file)) (Some (f.weight_at file at)) None
 
 -- the number in the four bytes from a place on, big-endian
 abbrev pub number_at : List ℕ → ℕ → ℕ

@@ -1,5 +1,5 @@
 -- The records of a file, put on the sheet one by one.
-use Rattle.std.specs.Prelude.{◌≡◌, ℕ, zero, suc, ◌+◌, ◌*◌, ◌<◌, Bool, true, false, not, List, drop, is_ok, Some, None, Ok, Err, Option, Result, slice_index}
+use Rattle.std.specs.Prelude.{◌≡◌, ℕ, zero, suc, ◌+◌, ◌*◌, ◌<◌, Bool, true, false, not, List, drop, is_ok, Some, None, Err, Option, Result, slice_index}
 use Rattle.file.specs.Formats.{Format}
 use Rattle.file.specs.declared.fault.RecordFault.{RecordFault}
 use Rattle.refusal.specs.declared.Refusal.TheVariants.{WordCount, ShortMemory, NoDependent, HeadAbove, SelfLoop, NoEntry, AbsentArc, NoTree, NoMore, Fifty, ShortSpace, NotATree}
@@ -68,11 +68,6 @@ pub record LastStands {K : Type 0} (f : Format K) : Type 0 where
   pub last :
       (file : List ℕ) (count j h d : ℕ) → j < count → names f file j h d ≡ true → ((i : ℕ) → j < i → i < count → names f file i h d ≡ false) → put_records f file 0 count no_arcs h d ≡ Some (f.weight_at file (record_place f.width j + 2))
   pub absent : (file : List ℕ) (count h d : ℕ) → ((i : ℕ) → i < count → names f file i h d ≡ false) → put_records f file 0 count no_arcs h d ≡ None
-
--- a put's refusal as the record's fault
-abbrev pub recorded : ℕ → ℕ → Result (Unit {0}) Refusal → Result (Unit {0}) RecordFault
-recorded k at (Ok u) = Ok u
-recorded k at (Err e) = Err (in_record k at e)
 
 -- the call is refused with that fault, or it is done
 abbrev pub Told : {T E : Type 0} → Option E → Result T E → (refused done : Type 0) → Type 0

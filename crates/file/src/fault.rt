@@ -1,20 +1,50 @@
 // Why a file is refused: a fault of the file, of a record in it, and in that the sheet's own refusal.
 ghost use Rattle.file.specs.Faults.{fault_number, fault_place};
+ghost use Rattle.file.specs.Frame.{kind_numbered};
+ghost use Rattle.file.specs.Kinds.{kind_text};
 ghost use Rattle.file.specs.declared.fault.FileFault.TheVariants.{Record, Sheet};
-ghost use Rattle.std.specs.Prelude.{◌≡◌};
+ghost use Rattle.std.specs.Prelude.{◌≡◌, Some};
 
 use refusal::Refusal;
+use std::fmt;
 
 // The kinds of weight that a file can hold, by the number in its byte 3.
-#[derive(Clone, Copy, PartialEq, Debug)]
+#[derive(Clone, Copy, PartialEq, Eq, Debug)]
 pub enum FileKind {
     Score = 1,
     Cost = 2,
     Mark = 3,
 }
 
+impl TryFrom<u8> for FileKind {
+    type Error = FileFault;
+
+    ghost try_from_gives = { λ number r. r ≡ kind_numbered number };
+
+    fn try_from(number: u8) -> Result<FileKind, FileFault> {
+        match number {
+            1 => Ok(FileKind::Score),
+            2 => Ok(FileKind::Cost),
+            3 => Ok(FileKind::Mark),
+            _ => Err(FileFault::Kind),
+        }
+    }
+}
+
+impl fmt::Display for FileKind {
+    ghost output = { λ kind. Some (kind_text kind) };
+
+    fn fmt<W: fmt::Write>(&self, f: &mut fmt::Formatter<W>) -> fmt::Result {
+        f.write_str(match self {
+            FileKind::Score => "score",
+            FileKind::Cost => "cost",
+            FileKind::Mark => "mark over score",
+        })
+    }
+}
+
 // A put that was refused: the number of its record from 0, the place of the byte at fault, and the sheet's refusal.
-#[derive(Clone, Copy, PartialEq, Debug)]
+#[derive(Clone, Copy, PartialEq, Eq, Debug)]
 pub struct RecordFault {
     pub record: usize,
     pub place: usize,
@@ -22,7 +52,7 @@ pub struct RecordFault {
 }
 
 // Why a file is refused.
-#[derive(Clone, Copy, PartialEq, Debug)]
+#[derive(Clone, Copy, PartialEq, Eq, Debug)]
 pub enum FileFault {
     // the version is missing or not 1
     Version,

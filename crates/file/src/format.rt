@@ -1,52 +1,47 @@
 // How the weights of each kind lie in a record of a file.
-ghost use Rattle.std.specs.Prelude.{◌≡◌, ℕ, ◌+◌, ◌≤◌, List, [], ◌∷◌, length, slice_index};
-ghost use Rattle.file.specs.Formats.{cost_at, mark_at, number_at, score_at};
-ghost use Rattle.file.specs.declared.fault.FileKind.TheVariants.{Score as ScoreFile, Cost as CostFile, Mark as MarkFile};
-ghost use Rattle.file.specs.declared.fault.FileKind.{FileKind as TheKind};
+ghost use Rattle.std.specs.Prelude.{◌≡◌, ◌+◌, ◌≤◌, [], ◌∷◌, cond, Some, None, length, nat_le, slice_index, refl};
+ghost use Rattle.file.specs.Formats.{cost_format, Format, mark_format, score_format, weight_in};
 ghost use Rattle.std.proofs.Common.{lit≤};
+ghost use Rattle.weight.specs.Range.{entry_in};
 
 use crate::fault::FileKind;
 use weight::{Cost, Mark, Opens, Score};
 
 // A kind that a file can hold.
-pub(crate) trait Recorded: Opens {
-    ghost kind: { TheKind };
-
-    // how many bytes a weight has
-    ghost width: { ℕ };
-
-    ghost narrow: { width ≤ 5 };
-
-    // the weight in the bytes from a place on
-    ghost decoded: { List ℕ → ℕ → Self };
+pub trait Recorded: Opens {
+    // how the weights lie in a record
+    ghost format: { Format Self };
 
     fn file_kind() -> FileKind
-        ensures { result ≡ kind };
+        ensures { result ≡ format.kind };
 
+    // How many bytes a weight has.
     fn bytes() -> usize
-        ensures { result ≡ width };
+        ensures { result ≡ format.width };
 
-    fn weight(file: &[u8], at: usize) -> Self
-        requires { at + width ≤ length file.now }
-        ensures { result ≡ decoded file.now at };
+    // The weight in the bytes from a place on, if they are all there.
+    fn weight(file: &[u8], at: usize) -> Option<Self>
+        ensures { result ≡ weight_in format file.now at };
+
+    ghost narrow: { format.width ≤ 5 };
+
+    // a file's entries are the kind's own
+    ghost entries: { (x : Self) → format.entry x ≡ entry_in Self.ranges (Self.worth x) };
 }
 
-// The four bytes from a place on.
-fn four_at(file: &[u8], at: usize) -> [u8; 4]
-    requires { at + 4 ≤ length file.now }
-    ensures { result ≡ slice_index file.now at ∷ slice_index file.now (at + 1) ∷ slice_index file.now (at + 2) ∷ slice_index file.now (at + 3) ∷ [] }
+// The four bytes from a place on, if they are all there.
+fn four_at(file: &[u8], at: usize) -> Option<[u8; 4]>
+    ensures { result ≡ cond (nat_le (at + 4) (length file.now)) (Some (slice_index file.now at ∷ slice_index file.now (at + 1) ∷ slice_index file.now (at + 2) ∷ slice_index file.now (at + 3) ∷ [])) None }
 {
-    [file[at], file[at + 1], file[at + 2], file[at + 3]]
+    file.get(at..)?.first_chunk().copied()
 }
 
 impl Recorded for Score {
-    ghost kind = { ScoreFile };
-
-    ghost width = { 4 };
+    ghost format = { score_format };
 
     ghost narrow = { lit≤ tt };
 
-    ghost decoded = { score_at };
+    ghost entries = { λ _. refl };
 
     fn file_kind() -> FileKind {
         FileKind::Score
@@ -56,19 +51,18 @@ impl Recorded for Score {
         4
     }
 
-    fn weight(file: &[u8], at: usize) -> Score {
-        Score::new(i32::from_be_bytes(four_at(file, at)) as i64)
+    fn weight(file: &[u8], at: usize) -> Option<Score> {
+        let four = four_at(file, at)?;
+        Some(Score::new(i64::from(i32::from_be_bytes(four))))
     }
 }
 
 impl Recorded for Cost {
-    ghost kind = { CostFile };
-
-    ghost width = { 4 };
+    ghost format = { cost_format };
 
     ghost narrow = { lit≤ tt };
 
-    ghost decoded = { cost_at };
+    ghost entries = { λ _. refl };
 
     fn file_kind() -> FileKind {
         FileKind::Cost
@@ -78,19 +72,18 @@ impl Recorded for Cost {
         4
     }
 
-    fn weight(file: &[u8], at: usize) -> Cost {
-        Cost::new(u32::from_be_bytes(four_at(file, at)))
+    fn weight(file: &[u8], at: usize) -> Option<Cost> {
+        let four = four_at(file, at)?;
+        Some(Cost::new(u32::from_be_bytes(four)))
     }
 }
 
 impl Recorded for Mark<Score> {
-    ghost kind = { MarkFile };
-
-    ghost width = { 5 };
+    ghost format = { mark_format };
 
     ghost narrow = { lit≤ tt };
 
-    ghost decoded = { mark_at };
+    ghost entries = { λ _. refl };
 
     fn file_kind() -> FileKind {
         FileKind::Mark
@@ -100,7 +93,9 @@ impl Recorded for Mark<Score> {
         5
     }
 
-    fn weight(file: &[u8], at: usize) -> Mark<Score> {
-        Mark::new(file[at], <Score as Recorded>::weight(file, at + 1))
+    fn weight(file: &[u8], at: usize) -> Option<Mark<Score>> {
+        let mark = *file.get(at)?;
+        let score = <Score as Recorded>::weight(file, at + 1)?;
+        Some(Mark::new(mark, score))
     }
 }

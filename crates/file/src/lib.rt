@@ -1,4 +1,4 @@
-// A sheet's file: what kind it is of, and a reader for each kind.
+// A sheet's file: what kind it is of, and a reader for any kind.
 #![tactic(auto)]
 
 mod fault;
@@ -8,5 +8,6 @@ mod reader;
 mod records;
 
 pub use fault::{FileFault, FileKind, RecordFault};
+pub use format::Recorded;
 pub use frame::kind_of;
-pub use reader::{last_stands, read_costs, read_marks, read_scores};
+pub use reader::{last_stands, read};

@@ -1,34 +1,32 @@
 // The readers of files.
 ghost use Rattle.std.specs.Prelude.{◌≡◌, ℕ, ◌+◌, ◌≤◌, length, None, OnOk};
-ghost use Rattle.file.specs.Formats.{cost_format, format_of, mark_format, score_format};
+ghost use Rattle.file.specs.Formats.{cost_format, mark_format, score_format};
 ghost use Rattle.file.specs.Reading.{frame_words, ReadAs, record_count, words_told};
 ghost use Rattle.file.specs.Records.{LastStands, put_records, records_check, Told};
 ghost use Rattle.sheet.specs.Arcs.{arcs_in, no_arcs};
 ghost use Rattle.sheet.specs.Calls.{Holds, open_check};
+ghost use Rattle.sheet.specs.Parts.{lengths_of};
 
 use crate::fault::{FileFault, FileKind, RecordFault};
 use crate::format::Recorded;
 use crate::frame::kind_of;
 use crate::records::put_records;
 use refusal::Refusal;
-use search::Node;
-use sheet::{Candidate, Sheet, open};
-use weight::{Cost, Mark, Root, Score};
+use sheet::{Sheet, Spare, open};
 
 // The number of words of a file whose kind was told.
-fn words_told(file: &[u8], told: FileKind, kind: FileKind, width: usize) -> Result<usize, FileFault>
-    requires long { 5 ≤ length file.now }
-    requires narrow { width ≤ 5 }
-    ensures { result ≡ words_told kind width file.now told }
+fn words_told<K: Recorded>(file: &[u8], told: FileKind) -> Result<usize, FileFault>
+    requires { 5 ≤ length file.now }
+    ensures { result ≡ words_told K.format.kind K.format.width file.now told }
 {
-    if told as u8 != kind as u8 {
+    if told != K::file_kind() {
         return Err(FileFault::Kind);
     }
-    let words = file[4] as usize;
+    let words = usize::from(file[4]);
     if words == 0 || words > 40 {
         return Err(FileFault::Sheet(Refusal::WordCount));
     }
-    if (file.len() - 5) % (width + 2) != 0 {
+    if (file.len() - 5) % (K::bytes() + 2) != 0 {
         return Err(FileFault::Length);
     }
     Ok(words)
@@ -36,115 +34,59 @@ fn words_told(file: &[u8], told: FileKind, kind: FileKind, width: usize) -> Resu
 
 // The number of words that the frame of a file of the kind tells.
 fn frame_words<K: Recorded>(file: &[u8]) -> Result<usize, FileFault>
-    ensures value { result ≡ frame_words K.Recorded.kind K.Recorded.width file.now }
+    ensures value { result ≡ frame_words K.format.kind K.format.width file.now }
     ensures long { OnOk result (5 ≤ length file.now) }
 {
     let told = kind_of(file)?;
-    words_told(file, told, K::file_kind(), K::bytes())
+    words_told::<K>(file, told)
 }
 
 // How many records a file has.
-fn record_count(file: &[u8], width: usize) -> usize
-    requires long { 5 ≤ length file.now }
-    requires narrow { width ≤ 5 }
-    ensures { result ≡ record_count width file.now }
+fn record_count<K: Recorded>(file: &[u8]) -> usize
+    requires { 5 ≤ length file.now }
+    ensures { result ≡ record_count K.format.width file.now }
 {
-    (file.len() - 5) / (width + 2)
+    (file.len() - 5) / (K::bytes() + 2)
 }
 
 // Puts all records of a file on a sheet that was just opened. A record that is refused leaves every arc absent.
 fn fill<K: Recorded + Copy>(
     sheet: &Sheet<K>,
-    words: usize,
     file: &[u8],
     weights: &mut [K],
     sets: &mut [u64],
-    candidates: &[Candidate<K>],
-    nodes: &[Node<K>],
-    merges: &[Node<K>],
-    potentials: &[Root<K>],
+    spare: Spare<'_, K>,
 ) -> Result<(), RecordFault>
-    requires line { sheet.now.words ≡ words }
-    requires room { open_check words (record { weights = length weights.old; sets = length sets.old; candidates = length candidates.now; nodes = length nodes.now; merges = length merges.now; potentials = length potentials.now }) ≡ None }
+    requires room { open_check sheet.now.words (lengths_of weights.old sets.old spare) ≡ None }
     requires long { 5 ≤ length file.now }
-    ensures { Told (records_check (format_of K.Recorded.kind K.Recorded.width K.Recorded.decoded K.Kind.ranges K.Kind.worth) words file.now 0 (record_count K.Recorded.width file.now)) result (Holds words no_arcs weights.old weights.new sets.old sets.new) (Holds words (put_records (format_of K.Recorded.kind K.Recorded.width K.Recorded.decoded K.Kind.ranges K.Kind.worth) file.now 0 (record_count K.Recorded.width file.now) (arcs_in words weights.old sets.old)) weights.old weights.new sets.old sets.new) }
+    ensures { Told (records_check K.format sheet.now.words file.now 0 (record_count K.format.width file.now)) result (Holds sheet.now.words no_arcs weights.old weights.new sets.old sets.new) (Holds sheet.now.words (put_records K.format file.now 0 (record_count K.format.width file.now) (arcs_in sheet.now.words weights.old sets.old)) weights.old weights.new sets.old sets.new) }
 {
-    let count = record_count(file, K::bytes());
-    match put_records(sheet, weights, sets, file, count) {
-        Ok(()) => Ok(()),
-        Err(fault) => {
-            let _ = open(words, weights, sets, candidates, nodes, merges, potentials);
-            Err(fault)
-        }
+    let count = record_count::<K>(file);
+    let told = put_records(sheet, weights, sets, file, count);
+    if told.is_err() {
+        // the same opening as before, which passes again
+        let _ = open(sheet.words(), weights, sets, spare);
     }
+    told
 }
 
 // Opens a sheet and puts the records of a file of the kind on it.
-fn read<K: Recorded + Copy>(
+pub fn read<K: Recorded + Copy>(
     file: &[u8],
     weights: &mut [K],
     sets: &mut [u64],
-    candidates: &[Candidate<K>],
-    nodes: &[Node<K>],
-    merges: &[Node<K>],
-    potentials: &[Root<K>],
+    spare: Spare<'_, K>,
 ) -> Result<Sheet<K>, FileFault>
-    ensures { ReadAs (format_of K.Recorded.kind K.Recorded.width K.Recorded.decoded K.Kind.ranges K.Kind.worth) (record { weights = length weights.old; sets = length sets.old; candidates = length candidates.now; nodes = length nodes.now; merges = length merges.now; potentials = length potentials.now }) file.now result weights.old weights.new sets.old sets.new }
+    ensures { ReadAs K.format (lengths_of weights.old sets.old spare.entry) file.now result weights.old weights.new sets.old sets.new }
 {
     let words = frame_words::<K>(file)?;
-    let sheet = open(words, weights, sets, candidates, nodes, merges, potentials)?;
-    fill(
-        &sheet, words, file, weights, sets, candidates, nodes, merges, potentials,
-    )?;
+    let sheet = open(words, weights, sets, spare)?;
+    fill(&sheet, file, weights, sets, spare)?;
     Ok(sheet)
 }
 
-// Reads a file of scores.
-pub fn read_scores(
-    file: &[u8],
-    weights: &mut [Score],
-    sets: &mut [u64],
-    candidates: &[Candidate<Score>],
-    nodes: &[Node<Score>],
-    merges: &[Node<Score>],
-    potentials: &[Root<Score>],
-) -> Result<Sheet<Score>, FileFault>
-    ensures { ReadAs score_format (record { weights = length weights.old; sets = length sets.old; candidates = length candidates.now; nodes = length nodes.now; merges = length merges.now; potentials = length potentials.now }) file.now result weights.old weights.new sets.old sets.new }
-{
-    read::<Score>(file, weights, sets, candidates, nodes, merges, potentials)
-}
-
-// Reads a file of costs.
-pub fn read_costs(
-    file: &[u8],
-    weights: &mut [Cost],
-    sets: &mut [u64],
-    candidates: &[Candidate<Cost>],
-    nodes: &[Node<Cost>],
-    merges: &[Node<Cost>],
-    potentials: &[Root<Cost>],
-) -> Result<Sheet<Cost>, FileFault>
-    ensures { ReadAs cost_format (record { weights = length weights.old; sets = length sets.old; candidates = length candidates.now; nodes = length nodes.now; merges = length merges.now; potentials = length potentials.now }) file.now result weights.old weights.new sets.old sets.new }
-{
-    read::<Cost>(file, weights, sets, candidates, nodes, merges, potentials)
-}
-
-// Reads a file of marks over scores.
-pub fn read_marks(
-    file: &[u8],
-    weights: &mut [Mark<Score>],
-    sets: &mut [u64],
-    candidates: &[Candidate<Mark<Score>>],
-    nodes: &[Node<Mark<Score>>],
-    merges: &[Node<Mark<Score>>],
-    potentials: &[Root<Mark<Score>>],
-) -> Result<Sheet<Mark<Score>>, FileFault>
-    ensures { ReadAs mark_format (record { weights = length weights.old; sets = length sets.old; candidates = length candidates.now; nodes = length nodes.now; merges = length merges.now; potentials = length potentials.now }) file.now result weights.old weights.new sets.old sets.new }
-{
-    read::<Mark<Score>>(file, weights, sets, candidates, nodes, merges, potentials)
-}
-
 // After the puts of an accepted file an arc stands with the weight of the last record that names it.
+#[tactic(auto, using(crate::proofs::Lasts::last_stands))]
 pub fn last_stands()
     ensures scores { LastStands score_format }
     ensures costs { LastStands cost_format }

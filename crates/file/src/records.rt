@@ -1,7 +1,6 @@
 // The records of a file, put on the sheet one by one.
 ghost use Rattle.std.specs.Prelude.{◌≡◌, ℕ, ◌+◌, ◌*◌, ◌^◌, ◌<◌, ◌≤◌, length, None};
-ghost use Rattle.file.specs.Formats.{format_of};
-ghost use Rattle.file.specs.Records.{field_place, KeptBeyond, put_record, put_records, record_check, record_place, recorded, records_check, Told};
+ghost use Rattle.file.specs.Records.{field_place, KeptBeyond, put_record, put_records, record_check, record_place, records_check, Told};
 ghost use Rattle.sheet.specs.Arcs.{arcs_in};
 ghost use Rattle.sheet.specs.Calls.{Holds, memory_check};
 
@@ -23,28 +22,6 @@ fn field_place(at: usize, refusal: Refusal) -> usize
     }
 }
 
-// A put's refusal becomes the fault of the record.
-trait InRecord {
-    fn in_record(self, number: usize, at: usize) -> Result<(), RecordFault>
-        requires { at + 2 < 2 ^ 64 };
-}
-
-impl InRecord for Result<(), Refusal> {
-    fn in_record(self, number: usize, at: usize) -> Result<(), RecordFault>
-        requires { at + 2 < 2 ^ 64 }
-        ensures { result ≡ recorded number at self }
-    {
-        match self {
-            Ok(()) => Ok(()),
-            Err(refusal) => Err(RecordFault {
-                record: number,
-                place: field_place(at, refusal),
-                refusal,
-            }),
-        }
-    }
-}
-
 // Puts one record on the sheet.
 fn put_record<K: Recorded + Copy>(
     sheet: &Sheet<K>,
@@ -54,20 +31,24 @@ fn put_record<K: Recorded + Copy>(
     number: usize,
 ) -> Result<(), RecordFault>
     requires room { memory_check sheet.now.words (length weights.old) (length sets.old) ≡ None }
-    requires whole { record_place K.Recorded.width number + (K.Recorded.width + 2) ≤ length file.now }
-    ensures { Told (record_check (format_of K.Recorded.kind K.Recorded.width K.Recorded.decoded K.Kind.ranges K.Kind.worth) sheet.now.words file.now number) result ((weights.new ≡ weights.old) × (sets.new ≡ sets.old)) (Holds sheet.now.words (put_record (format_of K.Recorded.kind K.Recorded.width K.Recorded.decoded K.Kind.ranges K.Kind.worth) file.now number (arcs_in sheet.now.words weights.old sets.old)) weights.old weights.new sets.old sets.new) }
+    requires whole { record_place K.format.width number + (K.format.width + 2) ≤ length file.now }
+    ensures { Told (record_check K.format sheet.now.words file.now number) result ((weights.new ≡ weights.old) × (sets.new ≡ sets.old)) (Holds sheet.now.words (put_record K.format file.now number (arcs_in sheet.now.words weights.old sets.old)) weights.old weights.new sets.old sets.new) }
 {
     let at = 5 + (K::bytes() + 2) * number;
-    let weight = K::weight(file, at + 2);
+    let weight = K::weight(file, at + 2).unwrap();
     put(
         sheet,
         weights,
         sets,
-        file[at] as usize,
-        file[at + 1] as usize,
+        usize::from(file[at]),
+        usize::from(file[at + 1]),
         weight,
     )
-    .in_record(number, at)
+    .map_err(|refusal| RecordFault {
+        record: number,
+        place: field_place(at, refusal),
+        refusal,
+    })
 }
 
 // Puts the first records on the sheet, so many, up to one that is refused.
@@ -79,8 +60,8 @@ pub(crate) fn put_records<K: Recorded + Copy>(
     count: usize,
 ) -> Result<(), RecordFault>
     requires room { memory_check sheet.now.words (length weights.old) (length sets.old) ≡ None }
-    requires whole { record_place K.Recorded.width count ≤ length file.now }
-    ensures { Told (records_check (format_of K.Recorded.kind K.Recorded.width K.Recorded.decoded K.Kind.ranges K.Kind.worth) sheet.now.words file.now 0 count) result (KeptBeyond sheet.now.words weights.old weights.new sets.old sets.new) (Holds sheet.now.words (put_records (format_of K.Recorded.kind K.Recorded.width K.Recorded.decoded K.Kind.ranges K.Kind.worth) file.now 0 count (arcs_in sheet.now.words weights.old sets.old)) weights.old weights.new sets.old sets.new) }
+    requires whole { record_place K.format.width count ≤ length file.now }
+    ensures { Told (records_check K.format sheet.now.words file.now 0 count) result (KeptBeyond sheet.now.words weights.old weights.new sets.old sets.new) (Holds sheet.now.words (put_records K.format file.now 0 count (arcs_in sheet.now.words weights.old sets.old)) weights.old weights.new sets.old sets.new) }
 {
     for number in 0..count {
         put_record(sheet, weights, sets, file, number)?;
