@@ -1,10 +1,8 @@
-// What tests of rankings work with: memory for forty words, a plain record of what stands on a sheet, and random numbers.
+// What tests work with: a plain record of what stands on a sheet, and every list of up to five heads.
 #![tactic(auto)]
 
-mod memory;
-mod numbers;
+mod lists;
 mod plain;
 
-pub use memory::{Memory, fill};
-pub use numbers::random;
+pub use lists::{list, lists};
 pub use plain::Plain;

@@ -2,8 +2,6 @@
 // first, and a last line that tells why there is no further; or the one line of a refused file.
 #![tactic(auto)]
 
-ghost use Rattle.penrank.specs.Ends.{Ends};
-
 use desk::Memory;
 use file::{FileFault, FileKind, Recorded, kind_of};
 use lines::{Last, last_line, refused_line, tree_line};
@@ -16,18 +14,6 @@ use weight::{Cost, Kind, Mark, Opens, Score};
 
 // How much of the input is read: one byte more than the longest file has, so that a longer one is refused for its length.
 const MOST_BYTES: u64 = 11_206;
-
-// How a refused take ends a ranking; none where the memory or the space was too short, which is no end.
-fn last_of(why: Refusal) -> Option<Last>
-    ensures { Ends why result }
-{
-    match why {
-        Refusal::NoTree => Some(Last::NoTree),
-        Refusal::NoMore => Some(Last::NoMore),
-        Refusal::Fifty => Some(Last::Fifty),
-        _ => None,
-    }
-}
 
 // Writes a line of this length, from the front of a space, to standard output.
 fn print_line(rt: &HostRuntime, long: Result<usize, Refusal>, space: &[u8]) -> io::Result<()> {
@@ -44,10 +30,10 @@ fn print_tree<K: Kind>(rt: &HostRuntime, taken: &Taken<K>, heads: &[u8]) -> io::
     print_line(rt, long, &space)
 }
 
-// Writes the last line of a ranking.
-fn print_last(rt: &HostRuntime, last: Last) -> io::Result<()> {
+// Writes the last line, which tells why there is no further tree.
+fn print_last(rt: &HostRuntime, why: Refusal) -> io::Result<()> {
     let mut space = [0; 64];
-    let long = last_line(last, &mut space);
+    let long = Last::try_from(why).and_then(|last| last_line(last, &mut space));
     print_line(rt, long, &space)
 }
 
@@ -70,10 +56,7 @@ fn print_ranking<K: Opens + Copy>(
         let mut heads = [0; 40];
         match memory.take(&mut ranking, &mut heads) {
             Ok(taken) => print_tree(rt, &taken, heads.get(..words).unwrap_or(&[]))?,
-            Err(why) => {
-                let last = last_of(why).ok_or(ErrorKind::WriteZero)?;
-                return print_last(rt, last);
-            }
+            Err(why) => return print_last(rt, why),
         }
     }
     Err(ErrorKind::InvalidData.into())

@@ -5,7 +5,7 @@ use Rattle.pentrace.specs.declared.Line.TheVariants.{Call, NoCall}
 use Rattle.pentrace.specs.declared.Line.{Line}
 use Rattle.run.specs.declared.Call.{Call as Made}
 use Rattle.std.proofs.lemmas.List.{append_assoc, at_drop_all, at_drop_more}
-use Rattle.weight.specs.declared.score.Score.{Score}
+use Rattle.weight.specs.Numbers.{Score}
 
 calls_first : (line : Line) (lines : List Line) → calls_in (line ∷ lines) ≡ calls_in (line ∷ []) ++ calls_in lines
 calls_first (Call c) lines = refl

@@ -5,7 +5,7 @@ use Rattle.refusal.specs.declared.Refusal.TheVariants.{WordCount, ShortMemory, N
 use Rattle.refusal.specs.declared.Refusal.{Refusal}
 use Rattle.run.specs.declared.Call.TheVariants.{Put, Strike, Begin, Take, End}
 use Rattle.run.specs.declared.Call.{Call}
-use Rattle.weight.specs.declared.score.Score.{Score}
+use Rattle.weight.specs.Numbers.{Score}
 
 -- how the ranking ends, where the refusal tells it
 abbrev pub ending_text : Refusal → List ℕ
