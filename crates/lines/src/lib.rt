@@ -7,12 +7,14 @@ ghost use Rattle.lines.specs.Ends.{ToldEnd};
 ghost use Rattle.lines.specs.Lines.{tree_text, last_text, refused_text, ToldFields};
 ghost use Rattle.text.specs.Space.{Placed};
 
-use refusal::Refusal;
-use weight::Kind;
-
 mod refused;
 mod tree;
 mod writing;
+
+use refusal::Refusal;
+use refused::Refused;
+use tree::Around;
+use weight::Kind;
 
 // How a ranking ends.
 #[derive(Clone, Copy, PartialEq, Eq, Debug)]
@@ -50,10 +52,9 @@ pub fn tree_line<K: Kind>(
 ) -> Result<usize, Refusal>
     ensures { Placed (tree_text number (K.Kind.worth weight.now) heads.now) space.old 0 result space.new }
 {
-    let Some(room) = tree::weight_room(number, heads, space.len()) else {
-        return Err(Refusal::ShortSpace);
-    };
-    tree::write_tree(number, weight, heads, room, space)
+    let around = Around { number, heads };
+    let room = around.weight_room(space.len()).ok_or(Refusal::ShortSpace)?;
+    around.write(weight, room, space)
 }
 
 // The last line of a ranking.
@@ -71,10 +72,11 @@ pub fn last_line(last: Last, space: &mut [u8]) -> Result<usize, Refusal>
 pub fn refused_line(number: u8, place: usize, space: &mut [u8]) -> Result<usize, Refusal>
     ensures { Placed (refused_text number place) space.old 0 result space.new }
 {
-    if space.len() < refused::refused_length(number, place) {
+    let refused = Refused { number, place };
+    if space.len() < refused.text_length() {
         return Err(Refusal::ShortSpace);
     }
-    refused::write_refused(number, place, space)
+    refused.write(space)
 }
 
 // What holds of all lines of trees.

@@ -7,21 +7,32 @@ use crate::writing::put_bytes;
 use refusal::Refusal;
 use text::{put, width};
 
-// How long the line is: its words, blanks and end take 13 bytes.
-pub(crate) fn refused_length(number: u8, place: usize) -> usize
-    ensures { result ≡ length (refused_text number place) }
-{
-    width(number) + width(place) + 13
+// A refused file: the number of the refusal, and the place of the byte at fault.
+#[derive(Clone, Copy)]
+pub(crate) struct Refused {
+    pub(crate) number: u8,
+    pub(crate) place: usize,
 }
 
-// Writes the line to the front of the space, where there is room.
-pub(crate) fn write_refused(number: u8, place: usize, space: &mut [u8]) -> Result<usize, Refusal>
-    requires { length (refused_text number place) ≤ length space.old }
-    ensures { Placed (refused_text number place) space.old 0 result space.new }
-{
-    let end = put_bytes(b"refused ", space, 0)?;
-    let end = put(number, space, end)?;
-    let end = put_bytes(b" at ", space, end)?;
-    let end = put(place, space, end)?;
-    put_bytes(b"\n", space, end)
+impl Refused {
+    // How long the line is: its words, blanks and end take 13 bytes.
+    #[tactic(auto, using(crate::proofs::Pieces::length_refused))]
+    pub(crate) fn text_length(self) -> usize
+        ensures { result ≡ length (refused_text self.number self.place) }
+    {
+        width(self.number) + width(self.place) + 13
+    }
+
+    // Writes the line to the front of the space, where there is room.
+    #[tactic(auto, using(crate::proofs::Pieces::length_refused))]
+    pub(crate) fn write(self, space: &mut [u8]) -> Result<usize, Refusal>
+        requires { length (refused_text self.number self.place) ≤ length space.old }
+        ensures { Placed (refused_text self.number self.place) space.old 0 result space.new }
+    {
+        let end = put_bytes(b"refused ", space, 0)?;
+        let end = put(self.number, space, end)?;
+        let end = put_bytes(b" at ", space, end)?;
+        let end = put(self.place, space, end)?;
+        put_bytes(b"\n", space, end)
+    }
 }

@@ -8,6 +8,7 @@ use text::{put, width};
 
 // Writes the bytes from the place `at` on; returns the place behind them.
 // Too short a space is refused and left as it was.
+#[tactic(auto, using(crate::proofs::Parts::part_filled))]
 pub(crate) fn put_bytes(bytes: &[u8], space: &mut [u8], at: usize) -> Result<usize, Refusal>
     ensures { Placed bytes.now space.old at result space.new }
 {
@@ -20,6 +21,7 @@ pub(crate) fn put_bytes(bytes: &[u8], space: &mut [u8], at: usize) -> Result<usi
 }
 
 // What is left of the room behind the numbers with one blank between, or none where their text is longer.
+#[tactic(auto, using(crate::proofs::Spacing::length_split, crate::proofs::Spacing::length_blanked, crate::proofs::Spacing::spaced_none))]
 pub(crate) fn room_behind(numbers: &[u8], room: usize) -> Option<usize>
     ensures { MatchOption result (room < length (spaced numbers.now)) (λ free. free + length (spaced numbers.now) ≡ room) }
 {
@@ -34,6 +36,7 @@ pub(crate) fn room_behind(numbers: &[u8], room: usize) -> Option<usize>
 }
 
 // Writes the numbers with one blank between from the place `at` on, where there is room; returns the place behind.
+#[tactic(auto, using(crate::proofs::Spacing::length_split, crate::proofs::Spacing::length_blanked, crate::proofs::Spacing::spaced_none))]
 pub(crate) fn write_spaced(numbers: &[u8], space: &mut [u8], at: usize) -> Result<usize, Refusal>
     requires { at + length (spaced numbers.now) ≤ length space.old }
     ensures end { result ≡ Ok (at + length (spaced numbers.now)) }
