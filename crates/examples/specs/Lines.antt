@@ -10,12 +10,9 @@ use Rattle.sheet.specs.Arcs.{Arcs, no_arcs, with_arc}
 use Rattle.sheet.specs.Calls.{put_check, strike_check, or_else}
 use Rattle.tree.specs.Brackets.{Drawn}
 use Rattle.tree.specs.Trees.{Checked}
-use Rattle.weight.specs.Layers.{mark_worth}
-use Rattle.weight.specs.Numbers.{score_worth, cost_worth}
+use Rattle.weight.specs.Layers.{Mark, mark_worth}
+use Rattle.weight.specs.Numbers.{Score, Cost, score_worth, cost_worth}
 use Rattle.weight.specs.Worth.{Worth}
-use Rattle.weight.specs.declared.cost.Cost.{Cost}
-use Rattle.weight.specs.declared.mark.Mark.{Mark}
-use Rattle.weight.specs.declared.score.Score.{Score}
 
 -- a step on a sheet, by the arc's head and dependent
 pub data Step (K : Type 0) : Type 0 where

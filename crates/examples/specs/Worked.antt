@@ -2,19 +2,18 @@
 use Rattle.std.specs.Prelude.{ℕ, List, [], ◌∷◌, ◌++◌, ℤ, pos, neg_ℤ}
 use Rattle.examples.specs.Lines.{Step, put, strike, Line, Row, scores, costs, marks, score_file, no_tree}
 use Rattle.refusal.specs.declared.Refusal.TheVariants.{NoTree, NoMore}
-use Rattle.weight.specs.declared.cost.Cost.{Cost}
-use Rattle.weight.specs.declared.mark.Mark.{Mark}
-use Rattle.weight.specs.declared.score.Score.{Score}
+use Rattle.weight.specs.Layers.{Mark, layer}
+use Rattle.weight.specs.Numbers.{Score, Cost, single}
 
 abbrev pub score : ℕ → Score
-score x = record { value = pos x }
+score x = single (pos x)
 
 -- what costs x is worth −x
 abbrev pub cost : ℕ → Cost
-cost x = record { value = neg_ℤ (pos x) }
+cost x = single (neg_ℤ (pos x))
 
 abbrev pub mark : ℕ → ℤ → Mark Score
-mark x y = record { 0 = record { place = pos x; rest = record { value = y } } }
+mark x y = layer (pos x) (single y)
 
 -- weights on all arcs of two words: 0→1, 0→2, 1→2, 2→1
 abbrev pub two_words : {K : Type 0} → K → K → K → K → List (Step K)

@@ -4,8 +4,7 @@ use Rattle.pentrace.specs.declared.Order.TheVariants.{Open, Call}
 use Rattle.pentrace.specs.declared.Order.{Order}
 use Rattle.run.specs.declared.Call.TheVariants.{Put, Strike, Begin, Take, End}
 use Rattle.std.specs.Str.Parse.{without_leading_plus, without_leading_sign, IsNumeral, signed_digits_value, digits_value}
-use Rattle.weight.specs.Numbers.{score_worth}
-use Rattle.weight.specs.Numbers.{Score}
+use Rattle.weight.specs.Numbers.{Score, score_worth}
 use Rattle.std.specs.Borrow.{Bor}
 use Rattle.std.specs.Int.{w64}
 

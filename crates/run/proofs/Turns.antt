@@ -25,7 +25,7 @@ use Rattle.std.proofs.lemmas.List.{take-append-le}
 use Rattle.std.proofs.lemmas.Bool.{cases_lt, lt-ltb, or_parts, not-false}
 use Rattle.weight.specs.Range.{Range, entry_in}
 use Rattle.weight.specs.Worth.{Worth}
-use Rattle.weight.specs.declared.root.Root.{Root}
+use Rattle.weight.specs.Layers.{Root}
 
 -- the parts of a memory together
 abbrev pub memory_of : {K : Type 0} → List K → List ℕ → List (Candidate K) → List (Node K) → List (Node K) → List (Root K) → Memory K

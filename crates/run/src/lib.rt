@@ -9,7 +9,7 @@ ghost use Rattle.run.specs.Steps.{Ran, Stepped, run_check, told_by};
 ghost use Rattle.run.specs.declared.Call.TheVariants.{Take};
 ghost use Rattle.run.specs.declared.State.TheVariants.{Open, Ranked};
 ghost use Rattle.search.specs.declared.family.Node.{Node};
-ghost use Rattle.weight.specs.declared.root.Root.{Root};
+ghost use Rattle.weight.specs.Layers.{Root};
 ghost use Rattle.sheet.specs.Calls.{Answered};
 
 use ranking::{Ranking, Taken};

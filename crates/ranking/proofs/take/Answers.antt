@@ -1,7 +1,7 @@
 use Rattle.std.proofs.Common.{◌≡◌, ℕ, ◌+◌, ◌-◌, List, ◌++◌, length, take, drop, None, Ok, Err, sym, refl, ap, ◌∙◌, subst, arith}
 use Rattle.sheet.specs.declared.Candidate.{Candidate}
 use Rattle.search.specs.declared.family.Node.{Node}
-use Rattle.weight.specs.declared.root.Root.{Root}
+use Rattle.weight.specs.Layers.{Root}
 use Rattle.std.proofs.lemmas.List.{length-take-le, drop-set-lt}
 use Rattle.std.proofs.lemmas.Slice.{drop-append-drop}
 use Rattle.ranking.specs.Calls.{lengths_of, take_check, SameBeyond}
