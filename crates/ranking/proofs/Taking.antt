@@ -4,7 +4,7 @@ use Rattle.sheet.specs.Candidates.{cell, outranking}
 use Rattle.sheet.specs.declared.Candidate.{Candidate}
 use Rattle.cells.specs.Accounts.{Accounted, Next}
 use Rattle.queue.specs.Heap.{Ordered}
-use Rattle.ranking.specs.Calls.{lengths_of, take_check, SameBeyond, Took}
+use Rattle.ranking.specs.Calls.{lengths_of, passes_unless, take_check, SameBeyond, Took}
 use Rattle.ranking.specs.Memory.{Memory, HoldsArcs, HoldsTrees, StandsFor, Waits}
 use Rattle.ranking.specs.Steps.{Comes}
 use Rattle.ranking.specs.Takes.{HandedOut, Tells}
@@ -34,6 +34,15 @@ pub record RoomFor (n : ℕ) (l : Lengths) (space taken : ℕ) : Type 0 where
   pub potentials : n + 1 ≤ l.potentials
   pub space_in : n ≤ space
   pub left : taken ≡ 50 → ⊥
+
+-- a call that went on passed its check, and one that did not was refused by it
+pub passed : (o : Option Refusal) (u : Unit {0}) → Ok u ≡ passes_unless o → o ≡ None
+passed None u e = refl
+passed (Some why) u e = cc
+
+pub stopped : (o : Option Refusal) (e : Refusal) → Err e ≡ passes_unless o → o ≡ Some e
+stopped None e q = cc
+stopped (Some why) e q = cc
 
 pub room_for : (n : ℕ) (l : Lengths) (space taken : ℕ) → take_check n l space taken ≡ None → RoomFor n l space taken
 room_for n l space taken none =

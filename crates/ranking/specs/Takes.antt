@@ -1,5 +1,5 @@
 -- What a take tells. It is settled by the arcs that stand and by the trees taken, the latest first.
-use Rattle.std.specs.Prelude.{◌≡◌, ℕ, suc, ◌<◌, List, [], length, Ok, Err, Result}
+use Rattle.std.specs.Prelude.{◌≡◌, ℕ, suc, ◌<◌, cond, List, [], length, Ok, Err, Result, ◌==◌}
 use Rattle.cells.specs.Accounts.{Among}
 use Rattle.ranking.specs.Trees.{TreeOf, tree_worth}
 use Rattle.ranking.specs.declared.state.Taken.{Taken}
@@ -7,6 +7,10 @@ use Rattle.refusal.specs.declared.Refusal.TheVariants.{WordCount, ShortMemory, N
 use Rattle.refusal.specs.declared.Refusal.{Refusal}
 use Rattle.sheet.specs.Arcs.{Arcs}
 use Rattle.weight.specs.Worth.{Worth, Outweighs}
+
+-- the refusal where no tree is left after so many
+abbrev pub why_none : ℕ → Refusal
+why_none taken = cond (taken == 0) NoTree NoMore
 
 module _ {K : Type 0} (worth : K → Worth) (n : ℕ) (arcs : Arcs K) where
   -- the tree was not handed out yet

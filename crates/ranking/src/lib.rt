@@ -1,18 +1,17 @@
 // The ranking of a sheet's trees: each take hands out the heaviest that is still untaken, up to fifty.
 #![tactic(auto)]
 
-ghost use Rattle.std.specs.Prelude.{◌≡◌, ℕ, suc, ◌<◌, ◌≤◌, List, [], length, take, drop, if◌then◌else◌, MatchResult, nat_eq, slice_set};
-ghost use Rattle.ranking.specs.Calls.{take_check, Took};
-ghost use Rattle.ranking.specs.Memory.{Memory, HoldsArcs, HoldsTrees, StandsFor};
-ghost use Rattle.ranking.specs.Steps.{Comes};
+ghost use Rattle.std.specs.Prelude.{◌≡◌, ℕ, suc, ◌<◌, ◌≤◌, List, [], length};
+ghost use Rattle.ranking.specs.Calls.{passes_unless, take_check, Took};
+ghost use Rattle.ranking.specs.Memory.{Memory, memory_of, HoldsArcs, StandsFor};
+ghost use Rattle.ranking.specs.Steps.{NextTree};
 ghost use Rattle.ranking.specs.Takes.{FirstIsHeaviest, Settled};
-ghost use Rattle.refusal.specs.declared.Refusal.TheVariants.{NoTree, NoMore};
+ghost use Rattle.search.specs.Space.{RoomIn, SameParts};
 ghost use Rattle.search.specs.State.{Room};
 ghost use Rattle.sheet.specs.Arcs.{Arcs};
 
-use crate::splitting::{seek, split};
 use refusal::Refusal;
-use search::Node;
+use search::{Node, Working};
 use sheet::{Candidate, Lengths, Sheet};
 use weight::{Kind, Opens, Root};
 
@@ -46,84 +45,90 @@ pub fn end<K: Kind>(ranking: Ranking<K>) -> Sheet<K>
     sheet
 }
 
-// Which check of a take fails before a tree is sought, if any does.
-fn take_check<K>(ranking: &Ranking<K>, lengths: Lengths, space: usize) -> Option<Refusal>
-    ensures { result ≡ take_check ranking.now.sheet.words lengths space ranking.now.taken }
-{
-    if ranking.sheet.too_short(lengths) {
-        return Some(Refusal::ShortMemory);
+impl<K> Ranking<K> {
+    // Whether a take passes the checks that come before a tree is sought.
+    fn take_check(&self, lengths: Lengths, space: usize) -> Result<(), Refusal>
+        ensures { result ≡ passes_unless (take_check self.now.sheet.words lengths space self.now.taken) }
+    {
+        if self.sheet.too_short(lengths) {
+            return Err(Refusal::ShortMemory);
+        }
+        if space < self.sheet.words() {
+            return Err(Refusal::ShortSpace);
+        }
+        if self.taken == 50 {
+            return Err(Refusal::Fifty);
+        }
+        Ok(())
     }
-    if space < ranking.sheet.words() {
-        return Some(Refusal::ShortSpace);
+
+    // Counts one tree more; returns how many were handed out.
+    fn count_one(&mut self, waiting: usize) -> usize
+        requires left { self.old.taken < 50 }
+        requires few { waiting ≤ 50 }
+        ensures count { result ≡ suc self.old.taken }
+        ensures taken { self.new.taken ≡ result }
+        ensures waits { self.new.waiting ≡ waiting }
+        ensures words { self.new.sheet.words ≡ self.old.sheet.words }
+    {
+        let count = self.taken + 1;
+        self.taken = count;
+        self.waiting = waiting;
+        count
     }
-    if ranking.taken == 50 {
-        return Some(Refusal::Fifty);
-    }
-    None
 }
 
-// The next tree, and how many candidates wait then.
-fn next_tree<K: Kind + Copy>(
-    words: usize,
-    taken: usize,
-    waiting: usize,
-    weights: &[K],
-    sets: &mut [u64],
-    candidates: &mut [Candidate<K>],
-    nodes: &mut [Node<K>],
-    merges: &mut [Node<K>],
-    potentials: &mut [Root<K>],
-) -> Result<(Candidate<K>, usize), Refusal>
-    requires line { (1 ≤ words) × ((words ≤ 40) × ((50 < length candidates.old) × (waiting ≤ 50))) }
-    requires room { Room words (length sets.old) (length weights.now) (length nodes.old) (length merges.old) (length potentials.old) }
-    ensures kept { sets.new ≡ sets.old }
-    ensures beyond { drop 50 candidates.new ≡ drop 50 candidates.old }
-    ensures none { MatchResult result (λ x. x.1 ≤ 50) (λ e. (e ≡ (if nat_eq taken 0 then NoTree else NoMore)) × (candidates.new ≡ candidates.old)) }
-    ensures comes { (arcs : Arcs K) (ts : List (List ℕ)) → HoldsArcs K.Kind.worth K.Kind.ranges words weights.now sets.old arcs → length ts ≡ taken → length ts < 50 → HoldsTrees K.Kind.worth words arcs ts candidates.old waiting → Comes K.Kind.worth words arcs ts candidates.new result }
-{
-    if taken == 0 {
-        return match seek(words, weights, sets, &[], 0, nodes, merges, potentials) {
-            Some(x) => Ok((x, 0)),
-            None => Err(Refusal::NoTree),
+impl<K: Kind + Copy> Ranking<K> {
+    // The next tree, and how many candidates wait then.
+    fn next_tree(
+        &self,
+        weights: &[K],
+        sets: &mut [u64],
+        candidates: &mut [Candidate<K>],
+        working: &mut Working<'_, K>,
+    ) -> Result<(Candidate<K>, usize), Refusal>
+        requires slots { 50 < length candidates.old }
+        requires room { RoomIn self.now.sheet.words sets.old weights.now working.old }
+        ensures sets { sets.new ≡ sets.old }
+        ensures next { NextTree K.Kind.worth K.Kind.ranges self.now weights.now sets.old candidates.old candidates.new result }
+        ensures parts { SameParts working.old working.new }
+    {
+        if self.taken == 0 {
+            let first = self
+                .seek(weights, sets, &[], 0, working)
+                .ok_or(Refusal::NoTree)?;
+            return Ok((first, 0));
+        }
+        let current = candidates[50];
+        let more = self.split(&current, candidates, weights, sets, working);
+        let Ok(next) = queue::pop(candidates, more) else {
+            return Err(Refusal::NoMore);
         };
+        Ok((next, more - 1))
     }
-    let current = candidates[50];
-    let more = split(
-        words, &current, candidates, waiting, weights, sets, nodes, merges, potentials,
-    );
-    match queue::pop(candidates, more) {
-        Ok(x) => Ok((x, more - 1)),
-        Err(_) => Err(Refusal::NoMore),
+
+    // The next tree, sought in just so much of the working space as is lent.
+    fn next_within(
+        &self,
+        weights: &[K],
+        sets: &mut [u64],
+        candidates: &mut [Candidate<K>],
+        nodes: &mut [Node<K>],
+        merges: &mut [Node<K>],
+        potentials: &mut [Root<K>],
+    ) -> Result<(Candidate<K>, usize), Refusal>
+        requires slots { 50 < length candidates.old }
+        requires room { Room self.now.sheet.words (length sets.old) (length weights.now) (length nodes.old) (length merges.old) (length potentials.old) }
+        ensures sets { sets.new ≡ sets.old }
+        ensures next { NextTree K.Kind.worth K.Kind.ranges self.now weights.now sets.old candidates.old candidates.new result }
+    {
+        let mut working = Working {
+            nodes,
+            merges,
+            potentials,
+        };
+        self.next_tree(weights, sets, candidates, &mut working)
     }
-}
-
-// Keeps the tree that is handed out as the one taken last.
-fn keep_last<K: Copy>(candidates: &mut [Candidate<K>], x: Candidate<K>)
-    requires { 50 < length candidates.old }
-    ensures { candidates.new ≡ slice_set candidates.old 50 x }
-{
-    candidates[50] = x;
-}
-
-// Counts one tree more; returns how many were handed out.
-fn count_one<K>(ranking: &mut Ranking<K>, waiting: usize) -> usize
-    requires { (ranking.old.taken < 50) × (waiting ≤ 50) }
-    ensures count { (result ≡ suc ranking.old.taken) × (ranking.new.taken ≡ result) }
-    ensures rest { (ranking.new.sheet.words ≡ ranking.old.sheet.words) × (ranking.new.waiting ≡ waiting) }
-{
-    let count = ranking.taken + 1;
-    ranking.taken = count;
-    ranking.waiting = waiting;
-    count
-}
-
-// Writes the first heads to the front of the space.
-fn write_heads(words: usize, heads: &[u8; 40], space: &mut [u8])
-    requires { (words ≤ 40) × (words ≤ length space.old) }
-    ensures front { take words space.new ≡ take words heads.now }
-    ensures rest { drop words space.new ≡ drop words space.old }
-{
-    space[..words].copy_from_slice(&heads[..words]);
 }
 
 // Hands out the heaviest untaken tree: its heads go to the front of the space.
@@ -132,42 +137,33 @@ pub fn take<K: Opens + Copy>(
     weights: &[K],
     sets: &mut [u64],
     candidates: &mut [Candidate<K>],
-    nodes: &mut [Node<K>],
-    merges: &mut [Node<K>],
-    potentials: &mut [Root<K>],
+    working: &mut Working<'_, K>,
     space: &mut [u8],
 ) -> Result<Taken<K>, Refusal>
-    ensures { Took K.Kind.worth K.Kind.ranges ranking.old ranking.new (record { weights = weights.now; sets = sets.old; candidates = candidates.old; nodes = nodes.old; merges = merges.old; potentials = potentials.old }) (record { weights = weights.now; sets = sets.new; candidates = candidates.new; nodes = nodes.new; merges = merges.new; potentials = potentials.new }) space.old space.new result }
+    ensures took { Took K.Kind.worth K.Kind.ranges ranking.old ranking.new (memory_of weights.now sets.old candidates.old working.old) (memory_of weights.now sets.new candidates.new working.new) space.old space.new result }
+    ensures parts { SameParts working.old working.new }
 {
     let lengths = Lengths {
         weights: weights.len(),
         sets: sets.len(),
         candidates: candidates.len(),
-        nodes: nodes.len(),
-        merges: merges.len(),
-        potentials: potentials.len(),
+        nodes: working.nodes.len(),
+        merges: working.merges.len(),
+        potentials: working.potentials.len(),
     };
-    if let Some(why) = take_check(ranking, lengths, space.len()) {
-        return Err(why);
-    }
+    ranking.take_check(lengths, space.len())?;
     let words = ranking.sheet.words();
-    let (x, waiting) = match next_tree(
-        words,
-        ranking.taken,
-        ranking.waiting,
+    let (x, waiting) = ranking.next_within(
         weights,
         sets,
         candidates,
-        &mut nodes[..words + 1],
-        &mut merges[..words - 1],
-        &mut potentials[..words + 1],
-    ) {
-        Ok(next) => next,
-        Err(why) => return Err(why),
-    };
-    keep_last(candidates, x);
-    let count = count_one(ranking, waiting);
-    write_heads(words, &x.heads, space);
+        &mut working.nodes[..words + 1],
+        &mut working.merges[..words - 1],
+        &mut working.potentials[..words + 1],
+    )?;
+    candidates[50] = x;
+    let count = ranking.count_one(waiting);
+    space[..words].copy_from_slice(&x.heads[..words]);
     Ok(Taken {
         weight: x.weight,
         count,
