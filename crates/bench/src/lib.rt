@@ -1,8 +1,10 @@
-// What tests work with: a plain record of what stands on a sheet, and every list of up to five heads.
+// What tests work with: a plain record of what stands on a sheet, every list of up to five heads, and texts of weights.
 #![tactic(auto)]
 
-mod lists;
+mod numbering;
 mod plain;
+mod texts;
 
-pub use lists::{list, lists};
+pub use numbering::{list, lists};
 pub use plain::Plain;
+pub use texts::shows;

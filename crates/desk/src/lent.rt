@@ -1,8 +1,7 @@
 // The calls that are lent their memory in a struct, over a slice for each part.
 ghost use Rattle.std.specs.Prelude.{◌≡◌, ℕ, ◌+◌, length};
-ghost use Rattle.ranking.specs.Calls.{Took};
-ghost use Rattle.ranking.specs.Memory.{Memory as Parts};
-ghost use Rattle.ranking.specs.Calls.{lengths_of};
+ghost use Rattle.desk.specs.Lent.{parts};
+ghost use Rattle.ranking.specs.Calls.{Took, lengths_of};
 ghost use Rattle.run.specs.Steps.{Ran, run_check};
 ghost use Rattle.search.specs.Answer.{Searched, barring};
 ghost use Rattle.search.specs.Arcs.{allowed, weight_at};
@@ -71,7 +70,7 @@ pub(crate) fn take_in<K: Opens + Copy>(
     potentials: &mut [Root<K>],
     space: &mut [u8],
 ) -> Result<Taken<K>, Refusal>
-    ensures { Took K.Kind.worth K.Kind.ranges ranking.old ranking.new (record { weights = weights.now; sets = sets.old; candidates = candidates.old; nodes = nodes.old; merges = merges.old; potentials = potentials.old }) (record { weights = weights.now; sets = sets.new; candidates = candidates.new; nodes = nodes.new; merges = merges.new; potentials = potentials.new }) space.old space.new result }
+    ensures { Took K.Kind.worth K.Kind.ranges ranking.old ranking.new (parts weights.now sets.old candidates.old nodes.old merges.old potentials.old) (parts weights.now sets.new candidates.new nodes.new merges.new potentials.new) space.old space.new result }
 {
     let working = &mut Working {
         nodes,
@@ -82,15 +81,15 @@ pub(crate) fn take_in<K: Opens + Copy>(
 }
 
 // Makes the calls on a fresh sheet of so many words.
-pub(crate) fn run_in<K: Opens + Copy>(
+pub(crate) fn run_in<'a, K: Opens + Copy>(
     words: usize,
     calls: &[Call<K>],
-    weights: &mut [K],
-    sets: &mut [u64],
-    candidates: &mut [Candidate<K>],
-    nodes: &mut [Node<K>],
-    merges: &mut [Node<K>],
-    potentials: &mut [Root<K>],
+    weights: &'a mut [K],
+    sets: &'a mut [u64],
+    candidates: &'a mut [Candidate<K>],
+    nodes: &'a mut [Node<K>],
+    merges: &'a mut [Node<K>],
+    potentials: &'a mut [Root<K>],
     turns: &mut [Turn<K>],
 ) -> Result<(), Refusal>
     ensures { Answered (run_check words (lengths_of (parts weights.old sets.old candidates.old nodes.old merges.old potentials.old)) (length calls.now) (length turns.old)) result ((parts weights.new sets.new candidates.new nodes.new merges.new potentials.new ≡ parts weights.old sets.old candidates.old nodes.old merges.old potentials.old) × (turns.new ≡ turns.old)) (Ran K.Kind.worth K.Kind.ranges words calls.now (parts weights.old sets.old candidates.old nodes.old merges.old potentials.old) (parts weights.new sets.new candidates.new nodes.new merges.new potentials.new) turns.old turns.new) }

@@ -121,12 +121,12 @@ impl<K: Opens + Copy> Memory<K> {
     {
         search_in(
             words,
-            self.sets.as_slice(),
-            self.weights.as_slice(),
+            &self.sets,
+            &self.weights,
             held,
-            self.nodes.as_mut_slice(),
-            self.merges.as_mut_slice(),
-            self.potentials.as_mut_slice(),
+            &mut self.nodes,
+            &mut self.merges,
+            &mut self.potentials,
             heads,
         )
     }

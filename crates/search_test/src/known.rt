@@ -1,19 +1,12 @@
 // Lines whose heaviest tree is known: each would be answered otherwise by a mistake that searches are known for.
 use crate::lines::Line;
+use bench::shows;
 use desk::Memory;
 use refusal::Refusal;
 use search::{Node, Working, best_tree};
 use std::process::Abort;
 use std::test::Fail;
 use weight::{Kind, Mark, Root, Score};
-
-// The weight is shown so.
-fn shows<K: Kind>(rt: &impl Abort, weight: &K, shown: &[u8]) -> Result<(), Refusal> {
-    let mut space = [0; 24];
-    let long = weight.show(&mut space)?;
-    assert_eq!(rt; space.get(..long), Some(shown));
-    Ok(())
-}
 
 // The search with some heads of the first word barred hands out these heads, at the weight that is shown so.
 fn finds<K: Kind + Copy>(
@@ -25,7 +18,7 @@ fn finds<K: Kind + Copy>(
 ) -> Result<(), Fail> {
     let mut heads = [0; 3];
     let told = line.search(&[], barred, heads.get_mut(..list.len()).unwrap_or(&mut []))?;
-    shows(rt, &told.ok_or("no tree")?, shown)?;
+    assert!(rt; shows(&told.ok_or("no tree")?, shown));
     assert_eq!(rt; heads.get(..list.len()), Some(list));
     Ok(())
 }
@@ -89,7 +82,7 @@ fn forty_words(rt: HostRuntime) -> Result<(), Fail> {
     }
     let mut heads = [0; 40];
     let told = memory.search(40, &[], &mut heads)?;
-    shows(&rt, &told.ok_or("no tree")?, b"80")?;
+    assert!(rt; shows(&told.ok_or("no tree")?, b"80"));
     assert!(rt; heads.iter().copied().eq(0..40));
     Ok(())
 }
