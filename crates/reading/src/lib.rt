@@ -8,7 +8,8 @@ ghost use Rattle.std.specs.Prelude.{◌≡◌, ◌≤◌, IfOk, MatchOption};
 use std::alloc::{AllocError, Global};
 
 // The numbers of a line: decimal, without leading zeros, 0 to 255, one blank between.
-// None where the line is no such list.
+// None where the line is no such list: it is no error, so `return` gives it back and not `?`.
+#[tactic(auto, using(crate::proofs::Readings::read_none, crate::proofs::Readings::read_all, std::proofs::lemmas::List::drop_more, std::proofs::lemmas::List::drop_all))]
 pub fn read_spaced(heap: Global, line: &[u8]) -> Result<Option<Vec<u8>>, AllocError>
     ensures { IfOk result (λ o. MatchOption o (SpellsNone line.now) (λ v. Spells line.now v.items)) }
 {
@@ -46,11 +47,11 @@ fn digit_behind(number: Option<u8>, digit: u8) -> Option<u8>
     requires { (48 ≤ digit) × (digit ≤ 57) }
     ensures { result ≡ with_digit number digit }
 {
-    let value = u16::from(digit - b'0');
+    let value = digit - b'0';
     match number {
-        None => Some(digit - b'0'),
+        None => Some(value),
         Some(0) => None,
-        Some(n) => u8::try_from(u16::from(n) * 10 + value).ok(),
+        Some(n) => n.checked_mul(10)?.checked_add(value),
     }
 }
 
