@@ -1,5 +1,5 @@
 // Layers over any kind: a place in front, which lies in the span `S`, and a weight of the kind behind it.
-ghost use Rattle.std.specs.Prelude.{◌≡◌, suc, ◌∷◌, drop, pos, slice_index_or, refl};
+ghost use Rattle.std.specs.Prelude.{◌≡◌, suc, ◌∷◌, drop, pos, slice_index_or};
 ghost use Rattle.std.proofs.Common.{ap, zero-le, suc-le-suc};
 ghost use Rattle.weight.specs.Layers.{layer_worth, mark_worth, root_worth, root_place};
 
