@@ -13,6 +13,7 @@ use crate::frame::kind_of;
 use crate::records::put_records;
 use refusal::Refusal;
 use sheet::{Sheet, Spare, open};
+use weight::{Cost, Mark, Score};
 
 // The number of words of a file whose kind was told.
 fn words_told<K: Recorded>(file: &[u8], told: FileKind) -> Result<usize, FileFault>
@@ -85,10 +86,12 @@ pub fn read<K: Recorded + Copy>(
     Ok(sheet)
 }
 
-// After the puts of an accepted file an arc stands with the weight of the last record that names it.
+// After the puts of an accepted file an arc stands with the weight of the last record that names it. The formats are those by which
+// `read` reads the three kinds.
 #[tactic(auto, using(crate::proofs::Lasts::last_stands))]
 pub fn last_stands()
     ensures scores { LastStands score_format }
     ensures costs { LastStands cost_format }
     ensures marks { LastStands mark_format }
+    ensures kinds { (⟦<Score as Recorded>⟧.format ≡ score_format) × (⟦<Cost as Recorded>⟧.format ≡ cost_format) × (⟦<Mark<Score> as Recorded>⟧.format ≡ mark_format) }
 {}

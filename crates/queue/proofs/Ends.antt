@@ -13,12 +13,12 @@ module _ {X : Type 0} (above : X → X → Bool) (o : IsStrictWeakOrder above) w
   -- one more at the end of a heap
   grown : (ws : List X) (x : X) → Ordered above ws → Rising above (ws ++ x ∷ []) (length ws)
   grown ws x h =
-      let more = length_push ws x in (
-        λ p k d a b f n.
+      let more = length_push ws x in record {
+        others = λ p k d c f n.
             let u : k < length ws = omega arith in
-            by above o _ _ _ _ (get_or_append_left ws (x ∷ []) d k u) (get_or_append_left ws (x ∷ []) d p (omega arith)) (over above o ws h p k d a b u),
-        λ p k d a b f g i. absurd (omega arith),
-      )
+            by above o _ _ _ _ (get_or_append_left ws (x ∷ []) d k u) (get_or_append_left ws (x ∷ []) d p (omega arith)) (over above o ws h p k d c u);
+        across = λ p k d c f i. absurd (omega arith);
+      }
 
   pub pushed : (xs zs : List X) (len : ℕ) (x : X) → len < length xs → IsPermutation (take (len + 1) (set xs len x)) zs → (Rising above (take (len + 1) (set xs len x)) len → Ordered above zs) → Pushed above xs len x (zs ++ drop (len + 1) (set xs len x)) (len + 1)
   pushed xs zs len x room s r =
@@ -40,13 +40,13 @@ module _ {X : Type 0} (above : X → X → Bool) (o : IsStrictWeakOrder above) w
   module _ (xs ys : List X) (m : ℕ) (last : m + 1 ≡ length xs) (long : length ys ≡ length xs) (s : Exchanged xs ys 0 m) where
     pub shrunk : Ordered above xs → Sinking above (take m ys) 0
     shrunk h =
-        let n : length (take m ys) ≡ m = length-take-le m ys (omega arith) in (
-          λ p k d a b f z.
+        let n : length (take m ys) ≡ m = length-take-le m ys (omega arith) in record {
+          others = λ p k d c f z.
               let u : k < m = omega arith in
               let v : p < m = omega arith in
-              by above o _ _ _ _ (get_or-take m ys k d u ∙ s.2 k d (omega arith) (omega arith)) (get_or-take m ys p d v ∙ s.2 p d z (omega arith)) (over above o xs h p k d a b (omega arith)),
-          λ p k d a b f g i. absurd (omega arith),
-        )
+              by above o _ _ _ _ (get_or-take m ys k d u ∙ s.2 k d (omega arith) (omega arith)) (get_or-take m ys p d v ∙ s.2 p d z (omega arith)) (over above o xs h p k d c (omega arith));
+          across = λ p k d c f i. absurd (omega arith);
+        }
 
     -- the first of xs stands last, behind whatever the others became
     pub stays : (x : X) (zs : List X) → x ≡ get_or xs 0 x → length zs ≡ m → (d : X) → get_or (zs ++ drop m ys) m d ≡ x

@@ -3,7 +3,7 @@ use Rattle.std.proofs.Common.{◌≡◌, ℕ, ◌+◌, ◌-◌, ◌<◌, ◌≤�
 use Rattle.std.specs.Cmp.{IsStrictWeakOrder}
 use Rattle.std.specs.List.Sorted.{IsPermutation}
 use Rattle.std.proofs.lemmas.List.{append_assoc, append-nil, take_all, take_at, drop_at, get_or-take, get_or-set_same, get_or-set_other, length-take-le, take_more, take_more_set, take-append-drop}
-use Rattle.std.proofs.lemmas.List.Sorted.{length_permutation, IsPermutation-refl, IsPermutation-sym, IsPermutation-trans, IsPermutation-cons, IsPermutation-to_front}
+use Rattle.std.proofs.lemmas.List.Sorted.{length_permutation, IsPermutation-sym, IsPermutation-trans, IsPermutation-cons, IsPermutation-to_front, IsPermutation-append_left, IsPermutation-append_right}
 use Rattle.std.proofs.ByRecursion.{all_shuffled}
 use Rattle.std.proofs.lemmas.Bool.{cases_eq}
 use Rattle.queue.specs.Heap.{Ordered, Greatest}
@@ -11,7 +11,6 @@ use Rattle.queue.specs.Calls.{Pushed, Popped}
 use Rattle.queue.specs.Runs.{Falls, Emptied, CameOut}
 use Rattle.queue.proofs.Heaps.{by, not_itself}
 use Rattle.queue.proofs.Levels.{level}
-use Rattle.queue.proofs.Shuffling.{shuffled_behind, shuffled_before}
 
 module _ {X : Type 0} (above : X → X → Bool) (o : IsStrictWeakOrder above) where
   -- i of the given elements are in the list
@@ -34,7 +33,7 @@ module _ {X : Type 0} (above : X → X → Bool) (o : IsStrictWeakOrder above) w
       let front : take len ys ≡ take (len - 1) ys ++ x ∷ [] = ap (λ k. take k ys) (sym m) ∙ take_more ys (len - 1) x (omega arith) ∙ ap (λ y. take (len - 1) ys ++ y ∷ []) (p.left x) in
       let moved : IsPermutation (take len xs) (take len ys) = IsPermutation-trans _ _ _ p.same (subst (IsPermutation (x ∷ take (len - 1) ys)) (sym front) (IsPermutation-sym _ _ (IsPermutation-to_front (take (len - 1) ys) x))) in
       let all : ys ≡ take len ys ++ drop len xs = sym (take-append-drop len ys) ∙ ap (λ l. take len ys ++ l) p.rest in
-      subst (λ l. IsPermutation l ys) (take-append-drop len xs) (subst (IsPermutation (take len xs ++ drop len xs)) (sym all) (shuffled_before _ _ (drop len xs) moved))
+      subst (λ l. IsPermutation l ys) (take-append-drop len xs) (subst (IsPermutation (take len xs ++ drop len xs)) (sym all) (IsPermutation-append_left (drop len xs) _ _ moved))
 
   -- of the elements hs, those that came out are the first i of out, and m are left in xs
   pub record Emptying (hs xs out : List X) (m i : ℕ) : Type 0 where
@@ -78,31 +77,17 @@ module _ {X : Type 0} (above : X → X → Bool) (o : IsStrictWeakOrder above) w
     pub empties : Emptying hs ys (set out i x) (m - 1) (i + 1)
     empties =
         let joined : take i out ++ (x ∷ take (m - 1) ys) ≡ take (i + 1) (set out i x) ++ take (m - 1) ys = sym (append_assoc (take i out) (x ∷ []) (take (m - 1) ys)) ∙ ap (λ l. l ++ take (m - 1) ys) (sym now_out) in record {
-          same = IsPermutation-trans _ _ _ h.same (subst (IsPermutation (take i out ++ take m xs)) joined (shuffled_behind (take i out) _ _ p.same));
+          same = IsPermutation-trans _ _ _ h.same (subst (IsPermutation (take i out ++ take m xs)) joined (IsPermutation-append_right (take i out) _ _ p.same));
           used = IsPermutation-trans _ _ _ h.used (pop_moves xs ys m x long p);
           order = λ r. (p.ordered (h.order r).0, falls_on r, greatest_on r);
         }
 
-  pub filled : (given xs : List X) (i : ℕ) → i ≡ length given → length xs ≡ length given → Filling given xs i → IsPermutation given xs × Ordered above xs
-  filled given xs i all long h =
-      let a : take i given ≡ given = take_all i given (omega arith) in
-      let b : take i xs ≡ xs = take_all i xs (omega arith) in
-      (subst (λ l. IsPermutation l xs) a (subst (IsPermutation (take i given)) b h.0), subst (Ordered above) b h.1)
-
-  pub unemptied : (hs out : List X) (m : ℕ) → m ≡ length hs → Emptying hs hs out m 0
-  unemptied hs out m all =
-      let e : take m hs ≡ hs = take_all m hs (omega arith) in record {
-        same = subst (IsPermutation hs) (sym e) (IsPermutation-refl hs);
-        used = IsPermutation-refl hs;
-        order = λ r. (subst (Ordered above) (sym e) r, (λ a b d le lt. absurd (omega arith)), λ k d f. absurd (omega arith));
-      }
-
-  pub emptied : (hs xs out₀ out : List X) (m i : ℕ) → m ≡ 0 → i ≡ length hs → Emptying hs xs out m i → drop (length hs) out ≡ drop (length hs) out₀ → Emptied above hs out₀ xs out
-  emptied hs xs out₀ out m i none all h rest =
-      let e : take i out ++ take m xs ≡ take (length hs) out = ap (λ k. take i out ++ take k xs) none ∙ append-nil (take i out) ∙ ap (λ k. take k out) all in record {
-        same = subst (IsPermutation hs) e h.same;
-        falls = λ r. subst (λ k. Falls above (take k out)) all (h.order r).1;
-        rest = rest;
+  pub emptied : (hs xs out items : List X) (m i : ℕ) → m ≡ 0 → i ≡ length hs → length items ≡ length hs → Emptying hs xs items m i → Emptied above hs out xs (items ++ drop (length hs) out)
+  emptied hs xs out items m i none all long h =
+      let front : take i items ≡ take (length hs) (items ++ drop (length hs) out) = take_all i items (omega arith) ∙ sym (take_at items _ (length hs) long) in record {
+        same = subst (IsPermutation hs) (ap (λ k. take i items ++ take k xs) none ∙ append-nil (take i items) ∙ front) h.same;
+        falls = λ r. subst (Falls above) front (h.order r).1;
+        rest = drop_at items _ (length hs) long;
         used = h.used;
       }
 

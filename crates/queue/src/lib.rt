@@ -1,13 +1,14 @@
 // A waiting list that hands out its greatest element first: a binary heap in slots that the caller lends.
 //
-// The list is the first `len` of the slots; the caller keeps the length. The element at k + 1 has its parent at k / 2,
-// and in heap order no element outranks its parent. Nothing is asked of the slots: on any contents every call is safe,
-// and moves elements only; where the list was in heap order, it still is, and the one handed out is a greatest one.
+// The list is the first `len` of the slots, and the caller keeps the length: both are parts of larger memory of fixed size,
+// and nothing is allocated. The element at k + 1 has its parent at k / 2, and in heap order no element outranks its
+// parent. Nothing is asked of the slots: on any contents every call is safe, and moves elements only; where the list was in
+// heap order, it still is, and the one handed out is a greatest one.
 #![tactic(auto)]
 
-ghost use Rattle.std.specs.Prelude.{◌≡◌, ℕ, ◌+◌, ◌-◌, ◌*◌, ◌<◌, ◌≤◌, Bool, false, ◌∷◌, length, take, MatchResult, slice_index_or};
+ghost use Rattle.std.specs.Prelude.{◌≡◌, ℕ, ◌+◌, ◌-◌, ◌*◌, ◌<◌, ◌≤◌, Bool, false, ◌∷◌, length, take, MatchResult, IsOkAnd, slice_index_or};
 ghost use Rattle.queue.specs.Calls.{Pushed, Popped, Dropped, PushRefused, PopRefused, DropRefused};
-ghost use Rattle.queue.specs.Heap.{Ordered, Greatest, Least, Rising, Sinking, Highest, Lowest};
+ghost use Rattle.queue.specs.Heap.{Ordered, Greatest, Least, Rising, Sinking, IsChild, Highest, Lowest};
 ghost use Rattle.queue.specs.Runs.{CameOut, Emptied, RunRefused};
 ghost use Rattle.std.specs.Cmp.{IsStrictWeakOrder};
 ghost use Rattle.std.specs.List.Sorted.{IsPermutation};
@@ -37,7 +38,8 @@ pub enum Refused {
     BeyondSlots,
 }
 
-// Puts x into the list, and gives the list's new length.
+// Puts x into the list, and gives the list's new length. In each public call the slots and the length are two arguments and
+// no struct, since the caller holds both as parts of larger memory of fixed size.
 pub fn push<T: Ranked + Copy>(slots: &mut [T], len: usize, x: T) -> Result<usize, Refused>
     ensures { MatchResult result (λ n. Pushed T.above slots.old len x slots.new n) (λ e. PushRefused (length slots.old) len e × (slots.new ≡ slots.old)) }
 {
@@ -61,17 +63,17 @@ pub fn pop<T: Ranked + Copy>(slots: &mut [T], len: usize) -> Result<T, Refused>
     if len == 0 {
         return Err(Refused::Empty);
     }
-    Ok(take_first(&mut slots[0..len]))
+    Ok(take_first(&mut slots[..len]))
 }
 
 // Puts x into the list and drops a least element of those and x, which it gives: the list stays as long as it was.
 pub fn push_drop_least<T: Ranked + Copy>(slots: &mut [T], len: usize, x: T) -> Result<T, Refused>
     ensures { MatchResult result (λ y. Dropped T.above slots.old len x slots.new y) (λ e. DropRefused (length slots.old) len e × (slots.new ≡ slots.old)) }
 {
-    if len <= slots.len() {
-        return Ok(keep_higher(&mut slots[0..len], x));
+    if slots.len() < len {
+        return Err(Refused::BeyondSlots);
     }
-    Err(Refused::BeyondSlots)
+    Ok(keep_higher(&mut slots[..len], x))
 }
 
 // Pushes the given elements, in the order in which they stand, into an empty list, and pops them all into `out`:
@@ -83,15 +85,15 @@ pub fn rank<T: Ranked + Copy>(given: &[T], slots: &mut [T], out: &mut [T]) -> Re
     if slots.len() < n || out.len() < n {
         return Err(Refused::Full);
     }
-    push_all(&mut slots[0..n], given)?;
-    pop_all(&mut slots[0..n], out)?;
+    push_all(&mut slots[..n], given)?;
+    pop_all(&mut slots[..n], out)?;
     Ok(())
 }
 
 // Pushes the given elements into an empty list, which they fill.
 fn push_all<T: Ranked + Copy>(heap: &mut [T], given: &[T]) -> Result<(), Refused>
     requires { length heap.old ≡ length given.now }
-    ensures { MatchResult result (λ _. IsPermutation given.now heap.new × Ordered T.above heap.new) (λ _. ⊥) }
+    ensures { IsOkAnd result (λ _. IsPermutation given.now heap.new × Ordered T.above heap.new) }
 {
     for (i, x) in given.iter().enumerate() {
         push(heap, i, *x)?;
@@ -102,18 +104,19 @@ fn push_all<T: Ranked + Copy>(heap: &mut [T], given: &[T]) -> Result<(), Refused
 // Pops every element of a full list into `out`.
 fn pop_all<T: Ranked + Copy>(heap: &mut [T], out: &mut [T]) -> Result<(), Refused>
     requires { length heap.old ≤ length out.old }
-    ensures { MatchResult result (λ _. Emptied T.above heap.old out.old heap.new out.new) (λ _. ⊥) }
+    ensures { IsOkAnd result (λ _. Emptied T.above heap.old out.old heap.new out.new) }
 {
     let n = heap.len();
-    for i in 0..n {
-        out[i] = pop(heap, n - i)?;
+    for (i, place) in out[..n].iter_mut().enumerate() {
+        *place = pop(heap, n - i)?;
     }
     Ok(())
 }
 
 // Whether the element at i outranks the one at j.
 fn outranks_at<T: Ranked>(heap: &[T], i: usize, j: usize) -> bool
-    requires { (i < length heap.now) × (j < length heap.now) }
+    requires first { i < length heap.now }
+    requires second { j < length heap.now }
     ensures { (d : T) → T.above (slice_index_or heap.now i d) (slice_index_or heap.now j d) ≡ result }
 {
     heap[i].outranks(&heap[j])
@@ -125,7 +128,7 @@ fn insert<T: Ranked + Copy>(slots: &mut [T], len: usize, x: T)
     ensures { Pushed T.above slots.old len x slots.new (len + 1) }
 {
     slots[len] = x;
-    sift_up(&mut slots[0..len + 1], len);
+    sift_up(&mut slots[..len + 1], len);
 }
 
 // Moves the element at i up, while it outranks its parent.
@@ -134,26 +137,30 @@ fn sift_up<T: Ranked>(heap: &mut [T], mut i: usize)
     ensures shuffled { IsPermutation heap.old heap.new }
     ensures rises { Rising T.above heap.old i → Ordered T.above heap.new }
 {
-    while 0 < i && outranks_at(heap, i, (i - 1) / 2) {
-        heap.swap((i - 1) / 2, i);
-        i = (i - 1) / 2;
+    while 0 < i {
+        let parent = (i - 1) / 2;
+        if !outranks_at(heap, i, parent) {
+            return;
+        }
+        heap.swap(parent, i);
+        i = parent;
     }
 }
 
 // The child of the element at i that the other child, if there is one, does not outrank.
 fn higher_child<T: Ranked>(heap: &[T], i: usize) -> usize
     requires { i * 2 + 1 < length heap.now }
-    ensures bound { (result < length heap.now) × (i * 2 + 1 ≤ result) × (result ≤ i * 2 + 2) }
+    ensures bound { result < length heap.now }
+    ensures child { IsChild i result }
     ensures best { Highest T.above heap.now i result }
 {
     let left = i * 2 + 1;
-    if heap.len() <= left + 1 {
-        return left;
+    let right = left + 1;
+    if right < heap.len() && outranks_at(heap, right, left) {
+        right
+    } else {
+        left
     }
-    if outranks_at(heap, left + 1, left) {
-        return left + 1;
-    }
-    left
 }
 
 // Moves the first element down, while a child outranks it.
@@ -183,7 +190,7 @@ fn take_first<T: Ranked + Copy>(heap: &mut [T]) -> T
     let first = heap[0];
     let last = heap.len() - 1;
     heap.swap(0, last);
-    sift_down(&mut heap[0..last]);
+    sift_down(&mut heap[..last]);
     first
 }
 
@@ -194,8 +201,8 @@ fn lowest<T: Ranked>(list: &[T]) -> usize
     ensures least { Lowest T.above list.now result (length list.now) }
 {
     let mut best = 0;
-    for i in 1..list.len() {
-        if outranks_at(list, best, i) {
+    for (i, x) in list.iter().enumerate() {
+        if list[best].outranks(x) {
             best = i;
         }
     }
@@ -208,7 +215,7 @@ fn keep_higher<T: Ranked + Copy>(heap: &mut [T], x: T) -> T
     ensures ordered { Ordered T.above heap.old → Ordered T.above heap.new }
     ensures least { Least T.above result (x ∷ heap.old) }
 {
-    if heap.len() == 0 {
+    if heap.is_empty() {
         return x;
     }
     let i = lowest(heap);

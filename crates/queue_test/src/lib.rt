@@ -4,7 +4,7 @@
 
 ghost use Rattle.queue_test.specs.Weights.{HeaviestFirst};
 ghost use Rattle.std.specs.List.Sorted.{IsPermutation};
-ghost use Rattle.std.specs.Prelude.{◌≡◌, length, MatchResult, nat_lt};
+ghost use Rattle.std.specs.Prelude.{◌≡◌, length, IsOkAnd, nat_lt};
 ghost use Rattle.std.proofs.Common.{rules};
 
 use queue::{Ranked, Refused};
@@ -46,8 +46,9 @@ fn weigh_out(
     slots: &mut [Candidate],
     out: &mut [Candidate],
 ) -> Result<(), Refused>
-    requires { (length slots.old ≡ length given.now) × (length out.old ≡ length given.now) }
-    ensures { MatchResult result (λ _. IsPermutation given.now out.new × HeaviestFirst out.new) (λ _. ⊥) }
+    requires slots { length slots.old ≡ length given.now }
+    requires places { length out.old ≡ length given.now }
+    ensures { IsOkAnd result (λ _. IsPermutation given.now out.new × HeaviestFirst out.new) }
 {
     queue::rank(given, slots, out)?;
     Ok(())

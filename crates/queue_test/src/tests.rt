@@ -1,5 +1,7 @@
 // Long random runs of pushes, pops and drops, each answer compared with a plain list that is kept sorted.
 use super::*;
+use std::alloc::{AllocError, Global};
+use std::test::Fail;
 
 const ROOM: usize = 64;
 
@@ -20,96 +22,80 @@ struct Run {
     spread: u32,
 }
 
-// Puts x into the sorted list of the first `len`, behind those that are at least as heavy.
-fn add(list: &mut [Candidate], len: usize, x: Candidate) -> bool {
-    if list.len() <= len {
-        return false;
-    }
-    list[len] = x;
-    for i in (0..len).rev() {
-        if list[i].weight < list[i + 1].weight {
-            list.swap(i, i + 1);
-        }
-    }
-    true
-}
-
-// The place of x in the list, or the list's length.
-fn place_of(list: &[Candidate], x: Candidate) -> usize {
-    for (i, y) in list.iter().enumerate() {
-        if *y == x {
-            return i;
-        }
-    }
-    list.len()
-}
-
-// Takes x out of the sorted list of the first `len`, if it stands there and is as heavy as the one at `rank`.
-fn remove(list: &mut [Candidate], len: usize, x: Candidate, rank: usize) -> bool {
-    let at = place_of(list, x);
-    if list.len() < len || len <= at || len <= rank || list[rank].weight != x.weight {
-        return false;
-    }
-    for i in at + 1..len {
-        list.swap(i - 1, i);
-    }
-    list[len - 1] = NONE;
-    true
-}
-
-// The waiting list and the sorted one, of the same length.
+// The waiting list, and beside it the candidates that wait in it, heaviest first.
 #[derive(Drop)]
 struct Both {
-    slots: [Candidate; ROOM],
-    sorted: [Candidate; 65],
-    len: usize,
+    slots: Vec<Candidate>,
+    sorted: Vec<Candidate>,
 }
 
 impl Both {
-    fn push(&mut self, room: usize, x: Candidate) -> bool {
-        if ROOM < room || room < self.len {
-            return false;
-        }
-        match queue::push(&mut self.slots[0..room], self.len, x) {
-            Ok(more) => {
-                let fits = add(&mut self.sorted, self.len, x);
-                self.len = more;
-                fits
+    fn new(alloc: Global) -> Result<Both, AllocError> {
+        Ok(Both {
+            slots: vec![in alloc; NONE; ROOM]?,
+            sorted: Vec::new(alloc),
+        })
+    }
+
+    // Puts x into the sorted list, behind those that are at least as heavy.
+    fn add(&mut self, x: Candidate) -> Result<(), AllocError> {
+        let place = self.sorted.partition_point(|y| x.weight <= y.weight);
+        self.sorted.insert(place, x)?;
+        Ok(())
+    }
+
+    // Takes x out of the sorted list, if it stands there and is as heavy as the one at `rank`.
+    fn remove(&mut self, x: Candidate, rank: usize) -> bool {
+        let at = self.sorted.iter().position(|y| *y == x);
+        match (at, self.sorted.get(rank)) {
+            (Some(at), Some(y)) if y.weight == x.weight => {
+                self.sorted.remove(at);
+                true
             }
-            Err(Refused::Full) => self.len == room,
-            Err(_) => false,
+            _ => false,
+        }
+    }
+
+    fn push(&mut self, room: usize, x: Candidate) -> Result<bool, AllocError> {
+        let Some(slots) = self.slots.as_mut_slice().get_mut(..room) else {
+            return Ok(false);
+        };
+        match queue::push(slots, self.sorted.len(), x) {
+            Ok(more) => {
+                self.add(x)?;
+                Ok(self.sorted.len() == more)
+            }
+            Err(refused) => Ok(refused == Refused::Full && self.sorted.len() == room),
         }
     }
 
     fn pop(&mut self) -> bool {
-        match queue::pop(&mut self.slots, self.len) {
-            Ok(x) => {
-                let first = remove(&mut self.sorted, self.len, x, 0);
-                self.len -= 1;
-                first
-            }
-            Err(Refused::Empty) => self.len == 0,
-            Err(_) => false,
+        match queue::pop(&mut self.slots, self.sorted.len()) {
+            Ok(x) => self.remove(x, 0),
+            Err(refused) => refused == Refused::Empty && self.sorted.is_empty(),
         }
     }
 
-    fn push_drop_least(&mut self, x: Candidate) -> bool {
-        let len = self.len;
+    fn push_drop_least(&mut self, x: Candidate) -> Result<bool, AllocError> {
+        let len = self.sorted.len();
         match queue::push_drop_least(&mut self.slots, len, x) {
-            Ok(y) => add(&mut self.sorted, len, x) && remove(&mut self.sorted, len + 1, y, len),
-            Err(_) => false,
+            Ok(y) => {
+                self.add(x)?;
+                Ok(self.remove(y, len))
+            }
+            Err(_) => Ok(false),
         }
     }
 
     // One step of a run, as the random number tells.
-    fn step(&mut self, run: &Run, random: u32, x: Candidate) -> bool {
+    fn step(&mut self, run: &Run, random: u32, x: Candidate) -> Result<bool, AllocError> {
         let pick = random >> 28;
         if pick < run.pushes {
             self.push(run.room, x)
         } else if pick - run.pushes < run.drops {
             self.push_drop_least(x)
         } else {
-            self.pop()
+            Ok(self.pop())
         }
     }
 }
@@ -119,38 +105,24 @@ fn next(random: u32) -> u32 {
 }
 
 // Whether every answer of the run is the sorted list's, and at the end the lists empty alike.
-fn agrees(run: &Run) -> bool {
-    let mut both = Both {
-        slots: [NONE; ROOM],
-        sorted: [NONE; 65],
-        len: 0,
-    };
+fn agrees(alloc: Global, run: &Run) -> Result<bool, AllocError> {
+    let mut both = Both::new(alloc)?;
     let mut random = run.seed;
     for step in 0..run.steps {
         random = next(random);
-        let weight = if run.spread == 0 {
-            random
-        } else {
-            (random >> 8) % run.spread
-        };
         let x = Candidate {
             heads: step.to_le_bytes(),
-            weight,
+            weight: (random >> 8).checked_rem(run.spread).unwrap_or(random),
         };
-        if !both.step(run, random, x) {
-            return false;
+        if !both.step(run, random, x)? {
+            return Ok(false);
         }
     }
-    for _ in 0..ROOM + 1 {
-        if !both.pop() {
-            return false;
-        }
-    }
-    both.len == 0
+    Ok((0..=ROOM).all(|_| both.pop()) && both.sorted.is_empty())
 }
 
 #[test]
-fn runs_agree_with_a_sorted_list(rt: HostRuntime) {
+fn runs_agree_with_a_sorted_list(rt: HostRuntime) -> Result<(), Fail> {
     let table = [
         Run {
             seed: 1,
@@ -226,6 +198,7 @@ fn runs_agree_with_a_sorted_list(rt: HostRuntime) {
         },
     ];
     for run in &table {
-        assert!(rt; agrees(run));
+        assert!(rt; agrees(rt.alloc(), run)?);
     }
+    Ok(())
 }

@@ -1,5 +1,5 @@
 -- One element of a list changed.
-use Rattle.std.proofs.Common.{◌≡◌, ℕ, zero, suc, ◌<◌, true, List, [], ◌∷◌, length, drop, set, is_some, Some, refl, ap, arith}
+use Rattle.std.proofs.Common.{◌≡◌, ℕ, zero, suc, ◌<◌, true, List, [], ◌∷◌, length, set, is_some, Some, refl, ap, arith}
 use Rattle.std.specs.List.{slice_get}
 
 pub nth_set_same : {X : Type 0} (xs : List X) (i : ℕ) (x : X) → i < length xs → slice_get (set xs i x) i ≡ Some x
@@ -13,12 +13,6 @@ nth_set_other (y ∷ ys) zero zero x apart = absurd (apart refl)
 nth_set_other (y ∷ ys) zero (suc j) x apart = refl
 nth_set_other (y ∷ ys) (suc i) zero x apart = refl
 nth_set_other (y ∷ ys) (suc i) (suc j) x apart = nth_set_other ys i j x (λ e. apart (ap suc e))
-
-pub drop_set : {X : Type 0} (xs : List X) (i n : ℕ) (x : X) → i < n → drop n (set xs i x) ≡ drop n xs
-drop_set xs i zero x h = absurd (omega arith)
-drop_set [] i (suc n) x h = refl
-drop_set (y ∷ ys) zero (suc n) x h = refl
-drop_set (y ∷ ys) (suc i) (suc n) x h = drop_set ys i n x (omega arith)
 
 pub nth_some : {X : Type 0} (xs : List X) (i : ℕ) → i < length xs → is_some (slice_get xs i) ≡ true
 nth_some [] i h = absurd (omega arith)

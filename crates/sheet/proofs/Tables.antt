@@ -1,14 +1,15 @@
 -- The arcs that the memory holds after one of them is changed.
-use Rattle.std.proofs.Common.{◌≡◌, ℕ, zero, suc, ◌+◌, ◌-◌, ◌*◌, ◌/◌, ◌<◌, ◌≤◌, Bool, true, false, cond, not, ◌&&◌, ◌||◌, eqb, ltb, leb, ◌⊎◌, List, ◌++◌, length, get_or, drop, set, replicate, is_some, Some, None, Option, sym, refl, ap, ◌∙◌, subst, inl, inr, arith}
-use Rattle.refusal.specs.declared.Refusal.TheVariants.{WordCount, ShortMemory, NoDependent, HeadAbove, SelfLoop}
+use Rattle.std.proofs.Common.{◌≡◌, ℕ, ◌+◌, ◌-◌, ◌*◌, ◌/◌, ◌<◌, ◌≤◌, Bool, true, false, cond, not, ◌&&◌, ◌||◌, eqb, ltb, leb, ◌⊎◌, List, ◌++◌, length, get_or, take, drop, set, replicate, is_some, Some, None, Ok, Option, sym, refl, ap, ◌∙◌, subst, inl, inr, arith}
+use Rattle.refusal.specs.declared.Refusal.TheVariants.{ShortMemory, NoDependent, HeadAbove, SelfLoop}
 use Rattle.refusal.specs.declared.Refusal.{Refusal}
-use Rattle.sheet.proofs.Lists.{nth_set_same, nth_set_other, nth_some, drop_set}
+use Rattle.sheet.proofs.Lists.{nth_set_same, nth_set_other, nth_some}
 use Rattle.sheet.specs.Arcs.{arcs_in, no_arcs, with_arc, on_line, place}
-use Rattle.sheet.specs.Calls.{Holds, or_else, refuse_if, arc_check, ends_check, open_check, too_short}
+use Rattle.sheet.specs.Calls.{checked, Holds, or_else, refuse_if, arc_check, ends_check, open_check, too_short}
 use Rattle.sheet.specs.declared.Lengths.{Lengths}
 use Rattle.std.proofs.lemmas.Nat.{mul-add-lt, div-mul-add}
-use Rattle.std.proofs.lemmas.List.{get_or-set_same, get_or-set_other, drop_at}
-use Rattle.std.proofs.lemmas.Bool.{cases_eq, cases_Bool, eq-eqb, ne_eqb, le-leb, leb-true, lt-ltb, ltb-false, eqb-false, and_parts, and_from, and_right, or_parts}
+use Rattle.std.proofs.lemmas.List.{get_or_append_left, get_or-replicate, get_or-set_same, get_or-set_other, drop_at, drop-set-lt, length-take-le}
+use Rattle.std.proofs.Math.Bool.{or-false, or-true, and-true, and-false}
+use Rattle.std.proofs.lemmas.Bool.{cases_eq, cases_Bool, eq-eqb, ne_eqb, le-leb, leb-true, le-ltb, ltb-false, eqb-false, and_parts, and_from, and_right, or_parts}
 use Rattle.std.specs.List.{slice_get}
 use Rattle.word_set.proofs.Sets.{in_set_empty}
 use Rattle.word_set.specs.Bits.{in_set}
@@ -65,22 +66,6 @@ module _
         by (inr p) (inl q) = rw (ne_eqb h' h p) (subst (λ x. arcs_in n weights' (set sets (d - 1) s) h' x ≡ arcs_in n weights sets h' x) (sym q) (same_word h' p))
         by p (inr q) = rw (and_right (eqb h' h) (eqb d' d) (ne_eqb d' d q)) (other_word h' d' q (cases_Bool (on_line n h' d')))
 
-or_none : (b : Bool) → (b || false) ≡ b
-or_none true = refl
-or_none false = refl
-
-or_all : (b : Bool) → (b || true) ≡ true
-or_all true = refl
-or_all false = refl
-
-and_all : (b : Bool) → (b && true) ≡ b
-and_all true = refl
-and_all false = refl
-
-and_none : (b : Bool) → (b && false) ≡ false
-and_none true = refl
-and_none false = refl
-
 -- ---- what is known where a check lets the call pass
 
 pub passes : (fails : Bool) (e : Refusal) (next : Option Refusal) → or_else (refuse_if fails e) next ≡ None → (fails ≡ false) × (next ≡ None)
@@ -91,13 +76,19 @@ pub last_passes : (fails : Bool) (e : Refusal) → refuse_if fails e ≡ None �
 last_passes true e h = cc
 last_passes false e h = refl
 
+-- the checks that a function answered passed
+pub all_pass : (q : Option Refusal) (u : Unit {0}) → Ok u ≡ checked q → q ≡ None
+all_pass None u h = refl
+all_pass (Some e) u h = cc
+
 pub record Passed (n weights sets h d : ℕ) : Type 0 where
   pub ends : Ends n h d
   pub weights_room : n * (n + 1) ≤ weights
   pub sets_room : n ≤ sets
 
-pub passed : (n weights sets h d : ℕ) → ends_check n weights sets h d ≡ None → Passed n weights sets h d
-passed n weights sets h d none =
+pub passed : (n weights sets h d : ℕ) (u : Unit {0}) → Ok u ≡ checked (ends_check n weights sets h d) → Passed n weights sets h d
+passed n weights sets h d u ok =
+    let none = all_pass (ends_check n weights sets h d) u ok in
     let a = passes (ltb weights (n * (n + 1)) || ltb sets n) ShortMemory (arc_check n h d) none in
     let b = passes (eqb d 0 || ltb n d) NoDependent (or_else (refuse_if (ltb n h) HeadAbove) (refuse_if (eqb h d) SelfLoop)) a.1 in
     let c = passes (ltb n h) HeadAbove (refuse_if (eqb h d) SelfLoop) b.1 in
@@ -130,67 +121,70 @@ module _ {K : Type 0} (n h d : ℕ) (few : n ≤ 40) (weights : List K) (sets : 
   set_low : d - 1 < n
   set_low = omega (arith, p.ends.some, p.ends.dependent)
 
-  near : ltb h 64 ≡ true
-  near = lt-ltb h 64 (omega (arith, p.ends.head))
+  near : h < 64
+  near = omega (arith, p.ends.head)
 
   pub set_holds :
-      (k : K) → ((v : ℕ) → in_set only v ≡ (eqb v h && ltb h 64)) → ((v : ℕ) → in_set s v ≡ (in_set (get_or sets (d - 1) 0) v || in_set only v)) →
+      (k : K) → (h < 64 → (v : ℕ) → in_set only v ≡ eqb v h) → ((v : ℕ) → in_set s v ≡ (in_set (get_or sets (d - 1) 0) v || in_set only v)) →
       Holds n (with_arc h d (Some k) (arcs_in n weights sets)) weights (set weights (place n h d) k) sets (set sets (d - 1) s)
   set_holds k one union =
       record {
         standing = one_changed n h d p.ends weights (set weights (place n h d) k) sets s (Some k) set_room (λ j ne. nth_set_other weights (place n h d) j k ne) kept (rw up (nth_set_same weights (place n h d) k place_room));
-        weights_beyond = drop_set weights (place n h d) (n * (n + 1)) k (place_in n h d p.ends);
-        sets_beyond = drop_set sets (d - 1) n s set_low;
+        weights_beyond = drop-set-lt (n * (n + 1)) weights (place n h d) k (place_in n h d p.ends);
+        sets_beyond = drop-set-lt n sets (d - 1) s set_low;
       }
     where
       kept : (v : ℕ) → (v ≡ h → ⊥) → in_set s v ≡ in_set (get_or sets (d - 1) 0) v
-      kept v ne = rw (union v, one v, ne_eqb v h ne) (or_none (in_set (get_or sets (d - 1) 0) v))
+      kept v ne = rw (union v, one near v, ne_eqb v h ne) (or-false (in_set (get_or sets (d - 1) 0) v))
 
       up : in_set s h ≡ true
-      up = rw (union h, one h, eq-eqb h h refl, near) (or_all (in_set (get_or sets (d - 1) 0) h))
+      up = rw (union h, one near h, eq-eqb h h refl) (or-true (in_set (get_or sets (d - 1) 0) h))
 
   pub clear_holds :
-      ((v : ℕ) → in_set only v ≡ (eqb v h && ltb h 64)) → ((v : ℕ) → in_set s v ≡ (in_set (get_or sets (d - 1) 0) v && not (in_set only v))) →
+      (h < 64 → (v : ℕ) → in_set only v ≡ eqb v h) → ((v : ℕ) → in_set s v ≡ (in_set (get_or sets (d - 1) 0) v && not (in_set only v))) →
       Holds n (with_arc h d None (arcs_in n weights sets)) weights weights sets (set sets (d - 1) s)
   clear_holds one less =
       record {
         standing = one_changed n h d p.ends weights weights sets s None set_room (λ j ne. refl) kept (rw down refl);
         weights_beyond = refl;
-        sets_beyond = drop_set sets (d - 1) n s set_low;
+        sets_beyond = drop-set-lt n sets (d - 1) s set_low;
       }
     where
       kept : (v : ℕ) → (v ≡ h → ⊥) → in_set s v ≡ in_set (get_or sets (d - 1) 0) v
-      kept v ne = rw (less v, one v, ne_eqb v h ne) (and_all (in_set (get_or sets (d - 1) 0) v))
+      kept v ne = rw (less v, one near v, ne_eqb v h ne) (and-true (in_set (get_or sets (d - 1) 0) v))
 
       down : in_set s h ≡ false
-      down = rw (less h, one h, eq-eqb h h refl, near) (and_none (in_set (get_or sets (d - 1) 0) h))
-
-getD_cleared : (k i : ℕ) (rest : List ℕ) → i < k → get_or (replicate k 0 ++ rest) i 0 ≡ 0
-getD_cleared zero i rest lt = absurd (omega arith)
-getD_cleared (suc k) zero rest lt = refl
-getD_cleared (suc k) (suc i) rest lt = getD_cleared k i rest (omega arith)
+      down = rw (less h, one near h, eq-eqb h h refl) (and-false (in_set (get_or sets (d - 1) 0) h))
 
 -- a fresh sheet: no bit is up
-pub fresh : {K : Type 0} (n : ℕ) (weights : List K) (sets : List ℕ) → n ≤ length sets → Holds n no_arcs weights weights sets (replicate n 0 ++ drop n sets)
-fresh n weights sets room =
+pub fresh : {K : Type 0} (n : ℕ) (weights : List K) (sets zeros : List ℕ) → n ≤ length sets → zeros ≡ replicate (length (take n sets)) 0 → Holds n no_arcs weights weights sets (zeros ++ drop n sets)
+fresh n weights sets zeros room filled =
     record {
       standing = λ h d. none h d (cases_Bool (on_line n h d));
       weights_beyond = refl;
-      sets_beyond = drop_at (replicate n 0) (drop n sets) n (length-replicate n 0);
+      sets_beyond = drop_at zeros (drop n sets) n (ap length all ∙ length-replicate n 0);
     }
   where
-    none : (h d : ℕ) → (on_line n h d ≡ true) ⊎ (on_line n h d ≡ false) → arcs_in n weights (replicate n 0 ++ drop n sets) h d ≡ None
+    all : zeros ≡ replicate n 0
+    all = filled ∙ ap (λ (k : ℕ). replicate k 0) (length-take-le n sets room)
+
+    none : (h d : ℕ) → (on_line n h d ≡ true) ⊎ (on_line n h d ≡ false) → arcs_in n weights (zeros ++ drop n sets) h d ≡ None
     none h d (inr off) = rw off refl
     none h d (inl on) =
         let e = ends_from n h d on in
         let lt : d - 1 < n = omega (arith, e.some, e.dependent) in
-        let zero : get_or (replicate n 0 ++ drop n sets) (d - 1) 0 ≡ 0 = getD_cleared n (d - 1) (drop n sets) lt in
+        let zero : get_or (zeros ++ drop n sets) (d - 1) 0 ≡ 0 =
+        ap (λ l. get_or (l ++ drop n sets) (d - 1) 0) all
+        ∙ get_or_append_left (replicate n 0) (drop n sets) 0 (d - 1) (rw (length-replicate {A = ℕ} n 0) lt)
+        ∙ get_or-replicate n (d - 1) 0 0 lt in
         rw (on, zero, in_set_empty h) refl
 
--- an opening that passes finds the sets long enough
-pub opened_sets : (n : ℕ) (l : Lengths) → open_check n l ≡ None → n ≤ l.sets
-opened_sets n l none =
-    let a = passes (eqb n 0 || ltb 40 n) WordCount (refuse_if (too_short n l) ShortMemory) none in
-    let short = last_passes (too_short n l) ShortMemory a.1 in
-    let rest = or_parts (ltb l.weights (n * (n + 1))) _ short in
+-- a line of 1 to 40 words opens on memory that is not too short
+pub open_passes : (n : ℕ) (l : Lengths) → 1 ≤ n → n ≤ 40 → too_short n l ≡ false → open_check n l ≡ None
+open_passes n l some few long = rw (ne_eqb n 0 (λ e. omega arith), le-ltb 40 n few, long) refl
+
+-- memory that is not too short has a set for each word
+pub long_sets : (n : ℕ) (l : Lengths) → too_short n l ≡ false → n ≤ l.sets
+long_sets n l long =
+    let rest = or_parts (ltb l.weights (n * (n + 1))) _ long in
     ltb-false l.sets n (or_parts (ltb l.sets n) _ rest.1).0

@@ -1,11 +1,11 @@
 // A sheet: which arcs of a line stand, each with its weight, in memory that the caller lends.
 #![tactic(auto)]
 
-ghost use Rattle.std.specs.Prelude.{◌≡◌, ◌<◌, ◌≤◌, length, replicate, is_some, IfOk, Some, None, slice_set};
+ghost use Rattle.std.specs.Prelude.{◌≡◌, ◌≤◌, length, replicate, is_some, IfOk, Some, None};
 ghost use Rattle.sheet.specs.Arcs.{arcs_in, no_arcs, with_arc};
 ghost use Rattle.sheet.specs.Candidates.{outranking};
 ghost use Rattle.sheet.specs.Orders;
-ghost use Rattle.sheet.specs.Calls.{Answered, arc_check, ends_check, Holds, memory_check, open_check, put_check, strike_check, too_short};
+ghost use Rattle.sheet.specs.Calls.{Answered, arc_check, checked, ends_check, Holds, memory_check, open_check, put_check, strike_check, too_short};
 ghost use Rattle.sheet.specs.Parts.{lengths_of};
 ghost use Rattle.weight.specs.Range.{entry_in};
 
@@ -44,6 +44,22 @@ pub struct Spare<'a, K> {
     pub potentials: &'a [Root<K>],
 }
 
+impl<K> Spare<'_, K> {
+    // How long all parts of the memory are, those that a sheet writes among them.
+    pub fn lengths(&self, weights: &[K], sets: &[u64]) -> Lengths
+        ensures { result ≡ lengths_of weights.now sets.now self.now }
+    {
+        Lengths {
+            weights: weights.len(),
+            sets: sets.len(),
+            candidates: self.candidates.len(),
+            nodes: self.nodes.len(),
+            merges: self.merges.len(),
+            potentials: self.potentials.len(),
+        }
+    }
+}
+
 impl<K> Sheet<K> {
     // How many words the line has.
     pub fn words(&self) -> usize
@@ -56,7 +72,53 @@ impl<K> Sheet<K> {
     pub fn too_short(&self, lengths: Lengths) -> bool
         ensures { result ≡ too_short self.now.words lengths }
     {
-        too_short(self.words, lengths)
+        let words = self.words;
+        lengths.weights < words * (words + 1)
+            || lengths.sets < words
+            || lengths.candidates < 51
+            || lengths.nodes < words + 1
+            || lengths.merges < words - 1
+            || lengths.potentials < words + 1
+    }
+
+    // Whether the parts that hold the arcs are long enough.
+    fn memory_check(&self, weights: &[K], sets: &[u64]) -> Result<(), Refusal>
+        ensures { result ≡ checked (memory_check self.now.words (length weights.now) (length sets.now)) }
+    {
+        if weights.len() < self.words * (self.words + 1) || sets.len() < self.words {
+            return Err(Refusal::ShortMemory);
+        }
+        Ok(())
+    }
+
+    // Whether the arc has its ends on the line, and they are apart.
+    fn arc_check(&self, head: usize, dependent: usize) -> Result<(), Refusal>
+        ensures { result ≡ checked (arc_check self.now.words head dependent) }
+    {
+        if dependent == 0 || dependent > self.words {
+            return Err(Refusal::NoDependent);
+        }
+        if head > self.words {
+            return Err(Refusal::HeadAbove);
+        }
+        if head == dependent {
+            return Err(Refusal::SelfLoop);
+        }
+        Ok(())
+    }
+
+    // The memory and the ends of the arc.
+    fn ends_check(
+        &self,
+        weights: &[K],
+        sets: &[u64],
+        head: usize,
+        dependent: usize,
+    ) -> Result<(), Refusal>
+        ensures { result ≡ checked (ends_check self.now.words (length weights.now) (length sets.now) head dependent) }
+    {
+        self.memory_check(weights, sets)?;
+        self.arc_check(head, dependent)
     }
 }
 
@@ -104,58 +166,18 @@ pub fn open<K: Opens + Copy>(
 ) -> Result<Sheet<K>, Refusal>
     ensures { Answered (open_check words (lengths_of weights.now sets.old spare.entry)) result (sets.new ≡ sets.old) (IfOk result (λ s. s.words ≡ words) × Holds words no_arcs weights.now weights.now sets.old sets.new) }
 {
-    let lengths = Lengths {
-        weights: weights.len(),
-        sets: sets.len(),
-        candidates: spare.candidates.len(),
-        nodes: spare.nodes.len(),
-        merges: spare.merges.len(),
-        potentials: spare.potentials.len(),
-    };
-    if let Some(why) = open_check(words, lengths) {
-        return Err(why);
+    if words == 0 || words > 40 {
+        return Err(Refusal::WordCount);
     }
-    clear_sets(words, weights, sets);
-    Ok(Sheet {
+    let sheet = Sheet {
         words,
         of: PhantomData,
-    })
-}
-
-// Which check of an opening fails first, if any does.
-fn open_check(words: usize, lengths: Lengths) -> Option<Refusal>
-    ensures { result ≡ open_check words lengths }
-{
-    if words == 0 || words > 40 {
-        return Some(Refusal::WordCount);
+    };
+    if sheet.too_short(spare.lengths(weights, sets)) {
+        return Err(Refusal::ShortMemory);
     }
-    if too_short(words, lengths) {
-        return Some(Refusal::ShortMemory);
-    }
-    None
-}
-
-// Whether some part is shorter than listed.
-fn too_short(words: usize, lengths: Lengths) -> bool
-    requires { (1 ≤ words) × (words ≤ 40) }
-    ensures { result ≡ too_short words lengths }
-{
-    lengths.weights < words * (words + 1)
-        || lengths.sets < words
-        || lengths.candidates < 51
-        || lengths.nodes < words + 1
-        || lengths.merges < words - 1
-        || lengths.potentials < words + 1
-}
-
-// Makes every arc absent.
-fn clear_sets<K>(words: usize, weights: &[K], sets: &mut [u64])
-    requires { words ≤ length sets.old }
-    ensures { Holds words no_arcs weights.now weights.now sets.old sets.new }
-{
-    for i in 0..words {
-        sets[i] = 0;
-    }
+    sets[..words].fill(0);
+    Ok(sheet)
 }
 
 // Gives an arc a weight, in place of any that it had.
@@ -169,17 +191,13 @@ pub fn put<K: Opens + Copy>(
 ) -> Result<(), Refusal>
     ensures { Answered (put_check sheet.now.words (length weights.old) (length sets.old) head dependent (entry_in K.Kind.ranges (K.Kind.worth weight))) result ((weights.new ≡ weights.old) × (sets.new ≡ sets.old)) (Holds sheet.now.words (with_arc head dependent (Some weight) (arcs_in sheet.now.words weights.old sets.old)) weights.old weights.new sets.old sets.new) }
 {
-    if let Some(why) = put_check(
-        sheet.words,
-        weights.len(),
-        sets.len(),
-        head,
-        dependent,
-        &weight,
-    ) {
-        return Err(why);
+    sheet.ends_check(weights, sets, head, dependent)?;
+    if !weight.entry() {
+        return Err(Refusal::NoEntry);
     }
-    set_arc(sheet.words, weights, sets, head, dependent, weight);
+    let at = (dependent - 1) * (sheet.words + 1) + head;
+    weights[at] = weight;
+    sets[dependent - 1] = either(sets[dependent - 1], only(head));
     Ok(())
 }
 
@@ -193,126 +211,12 @@ pub fn strike<K: Opens + Copy>(
 ) -> Result<(), Refusal>
     ensures { Answered (strike_check sheet.now.words (length weights.now) (length sets.old) head dependent (is_some (arcs_in sheet.now.words weights.now sets.old head dependent))) result (sets.new ≡ sets.old) (Holds sheet.now.words (with_arc head dependent None (arcs_in sheet.now.words weights.now sets.old)) weights.now weights.now sets.old sets.new) }
 {
-    if let Some(why) = strike_check(sheet.words, weights, sets, head, dependent) {
-        return Err(why);
+    sheet.ends_check(weights, sets, head, dependent)?;
+    if !holds(sets[dependent - 1], head) {
+        return Err(Refusal::AbsentArc);
     }
-    clear_arc(sheet.words, weights, sets, head, dependent);
-    Ok(())
-}
-
-// Whether the parts that hold the arcs are long enough.
-fn memory_check(words: usize, weights: usize, sets: usize) -> Option<Refusal>
-    requires { words ≤ 40 }
-    ensures { result ≡ memory_check words weights sets }
-{
-    if weights < words * (words + 1) || sets < words {
-        return Some(Refusal::ShortMemory);
-    }
-    None
-}
-
-// Which check of the arc's ends fails first, if any does.
-fn arc_check(words: usize, head: usize, dependent: usize) -> Option<Refusal>
-    ensures { result ≡ arc_check words head dependent }
-{
-    if dependent == 0 || dependent > words {
-        return Some(Refusal::NoDependent);
-    }
-    if head > words {
-        return Some(Refusal::HeadAbove);
-    }
-    if head == dependent {
-        return Some(Refusal::SelfLoop);
-    }
-    None
-}
-
-// The memory and the ends of the arc.
-fn ends_check(
-    words: usize,
-    weights: usize,
-    sets: usize,
-    head: usize,
-    dependent: usize,
-) -> Option<Refusal>
-    requires { words ≤ 40 }
-    ensures { result ≡ ends_check words weights sets head dependent }
-{
-    match memory_check(words, weights, sets) {
-        Some(why) => Some(why),
-        None => arc_check(words, head, dependent),
-    }
-}
-
-// Which check of a put fails first, if any does.
-fn put_check<K: Kind>(
-    words: usize,
-    weights: usize,
-    sets: usize,
-    head: usize,
-    dependent: usize,
-    weight: &K,
-) -> Option<Refusal>
-    requires { words ≤ 40 }
-    ensures { result ≡ put_check words weights sets head dependent (entry_in K.Kind.ranges (K.Kind.worth weight.now)) }
-{
-    match ends_check(words, weights, sets, head, dependent) {
-        Some(why) => Some(why),
-        None if weight.entry() => None,
-        None => Some(Refusal::NoEntry),
-    }
-}
-
-// Which check of a strike fails first, if any does.
-fn strike_check<K>(
-    words: usize,
-    weights: &[K],
-    sets: &[u64],
-    head: usize,
-    dependent: usize,
-) -> Option<Refusal>
-    requires { words ≤ 40 }
-    ensures { result ≡ strike_check words (length weights.now) (length sets.now) head dependent (is_some (arcs_in words weights.now sets.now head dependent)) }
-{
-    match ends_check(words, weights.len(), sets.len(), head, dependent) {
-        Some(why) => Some(why),
-        None if holds(sets[dependent - 1], head) => None,
-        None => Some(Refusal::AbsentArc),
-    }
-}
-
-// Writes the weight of an arc and that it stands.
-fn set_arc<K: Copy>(
-    words: usize,
-    weights: &mut [K],
-    sets: &mut [u64],
-    head: usize,
-    dependent: usize,
-    weight: K,
-)
-    requires few { words ≤ 40 }
-    requires room { ends_check words (length weights.old) (length sets.old) head dependent ≡ None }
-    ensures { Holds words (with_arc head dependent (Some weight) (arcs_in words weights.old sets.old)) weights.old weights.new sets.old sets.new }
-{
-    write_weight(weights, (dependent - 1) * (words + 1) + head, weight);
-    sets[dependent - 1] = either(sets[dependent - 1], only(head));
-}
-
-// Writes that an arc is absent.
-fn clear_arc<K>(words: usize, weights: &[K], sets: &mut [u64], head: usize, dependent: usize)
-    requires few { words ≤ 40 }
-    requires room { ends_check words (length weights.now) (length sets.old) head dependent ≡ None }
-    ensures { Holds words (with_arc head dependent None (arcs_in words weights.now sets.old)) weights.now weights.now sets.old sets.new }
-{
     sets[dependent - 1] = without(sets[dependent - 1], only(head));
-}
-
-// Writes one weight.
-fn write_weight<K: Copy>(weights: &mut [K], at: usize, weight: K)
-    requires { at < length weights.old }
-    ensures { weights.new ≡ slice_set weights.old at weight }
-{
-    weights[at] = weight;
+    Ok(())
 }
 
 #[cfg(test)]

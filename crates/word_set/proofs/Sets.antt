@@ -1,171 +1,124 @@
 -- The bits of a number as a set of words.
-use Rattle.std.proofs.Common.{◌≡◌, ℕ, zero, suc, ◌+◌, ◌-◌, ◌*◌, ◌/◌, ◌%◌, ◌^◌, ◌<◌, ◌≤◌, max, Bool, true, false, not, ◌&&◌, ◌||◌, eqb, ltb, leb, ◌⊎◌, sym, refl, ap, ◌∙◌, subst, inl, inr, one-mul, arith}
-use native.Mathlib.Nat.{zero-div, div-eq_of_lt}
-use lib.Bits.{bit_and, bit_or, bit_xor, or_step, or_shr}
-use lib.Count.{count_trailing_zeros, under}
-use lib.Pow.{ones_split}
-use Rattle.std.proofs.lemmas.Nat.{and_mask, and_shr, and_mod, xor_shr, xor_mod, shl-shr, shr_high, shr-shr, pow-add, pow_pos, pow_below}
-use Rattle.std.proofs.lemmas.Bool.{cases_lt, cases_eq, eq-eqb, ne_eqb, le-leb, lt-leb, lt-ltb, le-ltb}
+use Rattle.std.proofs.Common.{◌≡◌, ℕ, ◌+◌, ◌-◌, ◌*◌, ◌/◌, ◌%◌, ◌^◌, ◌<◌, ◌≤◌, min, max, true, false, not, ◌&&◌, ◌||◌, eqb, ltb, leb, sym, refl, ap, ◌∙◌, ⊎_elim, one-mul, mul_comm, arith}
+use lib.Bits.{bit_and, bit_or, bit_xor}
+use lib.Count.{count_trailing_zeros}
+use mir.Syntax.{w64}
+use Rattle.std.specs.Int.{bit_at}
+use Rattle.std.proofs.lemmas.Nat.Bits.{bit_at-zero, shr_and_one, bit_at_and, bit_at_or, bit_at_xor, bit_at-pow_same, bit_at-pow_other, bit_at_ones, bit_at_ones_above, bit_at_above, bit_at-lt, bit_at-trailing_zeros, bit_at_cat_low, same_from_bits}
+use Rattle.std.proofs.Math.Nat.{add-mul, div-add-mod}
+use Rattle.std.proofs.lemmas.Nat.{pow_pos, shr_high}
+use Rattle.std.proofs.lemmas.Bool.{cases_lt, cases_eq, eq-eqb, ne_eqb, le-leb, lt-leb}
+use Rattle.std.proofs.lemmas.Bool.Decides.{nat_tests}
 use Rattle.word_set.specs.Bits.{in_set}
+use Rattle.word_set.specs.Words.{Takes}
+
+-- a word is in a set where its bit is one
+by_bit : (s v b : ℕ) → bit_at s v ≡ b → in_set s v ≡ eqb b 1
+unfolding in_set
+by_bit s v b e = ap (λ (x : ℕ). eqb x 1) e
+
+pub bit_is : (s v : ℕ) → eqb (bit_and (s / 2 ^ v) 1) 1 ≡ in_set s v
+bit_is s v = ap (λ (x : ℕ). eqb x 1) (shr_and_one s v) ∙ sym (by_bit s v (bit_at s v) refl)
 
 pub in_set_empty : (v : ℕ) → in_set 0 v ≡ false
-unfolding in_set
-in_set_empty v = let e : 0 / 2 ^ v ≡ 0 = zero-div (2 ^ v) in rw e refl
-
-two : (r : ℕ) → r < 2 → (r ≡ 0) ⊎ (r ≡ 1)
-two zero h = inl refl
-two (suc zero) h = inr refl
-two (suc (suc r)) h = absurd (omega arith)
-
-or_bit : (x y : ℕ) → eqb (bit_or x y % 2) 1 ≡ (eqb (x % 2) 1 || eqb (y % 2) 1)
-or_bit x y = by (two (x % 2) (omega arith)) (two (y % 2) (omega arith)) (or_step x y)
-  where
-    m : ℕ
-    m = bit_or (x / 2) (y / 2)
-
-    by : (x % 2 ≡ 0) ⊎ (x % 2 ≡ 1) → (y % 2 ≡ 0) ⊎ (y % 2 ≡ 1) → bit_or x y ≡ bit_or (x / 2) (y / 2) * 2 + max (x % 2) (y % 2) → eqb (bit_or x y % 2) 1 ≡ (eqb (x % 2) 1 || eqb (y % 2) 1)
-    by (inl p) (inl q) e = let k : max (x % 2) (y % 2) ≡ 0 = rw (p, q) refl in let r : bit_or x y % 2 ≡ 0 = omega arith in rw (r, p, q) refl
-    by (inl p) (inr q) e = let k : max (x % 2) (y % 2) ≡ 1 = rw (p, q) refl in let r : bit_or x y % 2 ≡ 1 = omega arith in rw (r, p, q) refl
-    by (inr p) (inl q) e = let k : max (x % 2) (y % 2) ≡ 1 = rw (p, q) refl in let r : bit_or x y % 2 ≡ 1 = omega arith in rw (r, p) refl
-    by (inr p) (inr q) e = let k : max (x % 2) (y % 2) ≡ 1 = rw (p, q) refl in let r : bit_or x y % 2 ≡ 1 = omega arith in rw (r, p) refl
+in_set_empty v = by_bit 0 v 0 (bit_at-zero v)
 
 pub in_set_or : (a b v : ℕ) → in_set (bit_or a b) v ≡ (in_set a v || in_set b v)
 unfolding in_set
-in_set_or a b v = rw (or_shr a b v) (or_bit (a / 2 ^ v) (b / 2 ^ v))
-
-pub in_set_one : (w v : ℕ) → in_set (2 ^ w) v ≡ eqb v w
-unfolding in_set
-in_set_one w v = by (cases_lt v w) (cases_eq v w)
+in_set_or a b v = by_bit _ v _ (bit_at_or a b v) ∙ at (bit_at a v) (bit_at b v) (bit_at-lt a v) (bit_at-lt b v)
   where
-    by : (v < w) ⊎ (w ≤ v) → (v ≡ w) ⊎ (v ≡ w → ⊥) → eqb (2 ^ w / 2 ^ v % 2) 1 ≡ eqb v w
-    by (inl l) _ =
-        let k : ℕ = w - v - 1 in
-        let e : w ≡ (k + 1) + v = omega arith in
-        let p : 2 ^ w ≡ 2 ^ (k + 1) * 2 ^ v = ap (λ (x : ℕ). 2 ^ x) e ∙ pow-add 2 (k + 1) v in
-        let q : 2 ^ w / 2 ^ v ≡ 2 ^ (k + 1) = ap (λ (x : ℕ). x / 2 ^ v) p ∙ shl-shr (2 ^ (k + 1)) v in
-        let r : 2 ^ (k + 1) ≡ 2 ^ k * 2 ^ 1 = pow-add 2 k 1 in
-        let t : 2 ^ w / 2 ^ v % 2 ≡ 0 = omega arith in
-        let ne : v ≡ w → ⊥ = λ g. omega arith in
-        rw (t, ne_eqb v w ne) refl
-    by (inr g) (inl e) =
-        let q : 2 ^ w / 2 ^ v ≡ 1 = ap (λ (x : ℕ). 2 ^ w / 2 ^ x) e ∙ (ap (λ (x : ℕ). x / 2 ^ w) (sym (one-mul (2 ^ w))) ∙ shl-shr 1 w) in
-        rw (q, eq-eqb v w e) refl
-    by (inr g) (inr ne) =
-        let lt : w < v = omega arith in
-        let q : 2 ^ w / 2 ^ v ≡ 0 = div-eq_of_lt (pow_below w v lt) in
-        rw (q, ne_eqb v w ne) refl
-
-pub bit_is : (s w : ℕ) → eqb (bit_and (s / 2 ^ w) 1) 1 ≡ in_set s w
-unfolding in_set
-bit_is s w = rw (and_mask (s / 2 ^ w) 1) refl
-
--- ---- both, and the one without the other
-below_two : (P : ℕ → Type 0) → P 0 → P 1 → (a : ℕ) → a < 2 → P a
-below_two P z o zero l = z
-below_two P z o (suc zero) l = o
-below_two P z o (suc (suc a)) l = absurd (omega arith)
-
-at_bit : (a v : ℕ) → a / 2 ^ v % 2 < 2
-at_bit a v = omega arith
-
-and_at : (a b v : ℕ) → bit_and a b / 2 ^ v % 2 ≡ bit_and (a / 2 ^ v % 2) (b / 2 ^ v % 2)
-and_at a b v = ap (λ (x : ℕ). x % 2) (and_shr a b v) ∙ and_mod (a / 2 ^ v) (b / 2 ^ v) 1
-
-xor_at : (a b v : ℕ) → bit_xor a b / 2 ^ v % 2 ≡ bit_xor (a / 2 ^ v % 2) (b / 2 ^ v % 2)
-xor_at a b v = ap (λ (x : ℕ). x % 2) (xor_shr a b v) ∙ xor_mod (a / 2 ^ v) (b / 2 ^ v) 1
-
-and_two : (x y : ℕ) → x < 2 → y < 2 → eqb (bit_and x y) 1 ≡ (eqb x 1 && eqb y 1)
-and_two x y lx ly =
-    below_two (λ a. eqb (bit_and a y) 1 ≡ (eqb a 1 && eqb y 1)) (below_two (λ b. eqb (bit_and 0 b) 1 ≡ (eqb 0 1 && eqb b 1)) refl refl y ly) (below_two (λ b. eqb (bit_and 1 b) 1 ≡ (eqb 1 1 && eqb b 1)) refl refl y ly) x lx
-
-less_two : (x y : ℕ) → x < 2 → y < 2 → eqb (bit_xor x (bit_and x y)) 1 ≡ (eqb x 1 && not (eqb y 1))
-less_two x y lx ly =
-    below_two (λ a. eqb (bit_xor a (bit_and a y)) 1 ≡ (eqb a 1 && not (eqb y 1))) (below_two (λ b. eqb (bit_xor 0 (bit_and 0 b)) 1 ≡ (eqb 0 1 && not (eqb b 1))) refl refl y ly)
-    (below_two (λ b. eqb (bit_xor 1 (bit_and 1 b)) 1 ≡ (eqb 1 1 && not (eqb b 1))) refl refl y ly) x lx
+    at : (x y : ℕ) → x < 2 → y < 2 → eqb (max x y) 1 ≡ (eqb x 1 || eqb y 1)
+    at x y p q = grind (arith, nat_tests)
 
 pub in_set_and : (a b v : ℕ) → in_set (bit_and a b) v ≡ (in_set a v && in_set b v)
 unfolding in_set
-in_set_and a b v = ap (λ (x : ℕ). eqb x 1) (and_at a b v) ∙ and_two (a / 2 ^ v % 2) (b / 2 ^ v % 2) (at_bit a v) (at_bit b v)
+in_set_and a b v = by_bit _ v _ (bit_at_and a b v) ∙ at (bit_at a v) (bit_at b v) (bit_at-lt a v) (bit_at-lt b v)
+  where
+    at : (x y : ℕ) → x < 2 → y < 2 → eqb (min x y) 1 ≡ (eqb x 1 && eqb y 1)
+    at x y p q = grind (arith, nat_tests)
 
 pub in_set_less : (a b v : ℕ) → in_set (bit_xor a (bit_and a b)) v ≡ (in_set a v && not (in_set b v))
 unfolding in_set
-in_set_less a b v =
-    ap (λ (x : ℕ). eqb x 1) (xor_at a (bit_and a b) v ∙ ap (bit_xor (a / 2 ^ v % 2)) (and_at a b v))
-    ∙ less_two (a / 2 ^ v % 2) (b / 2 ^ v % 2) (at_bit a v) (at_bit b v)
-
--- ---- all the words of a line
-pub in_set_line : (n v : ℕ) → in_set (2 ^ (n + 1) - 1) v ≡ leb v n
-unfolding in_set
-in_set_line n v = by (cases_lt n v)
+in_set_less a b v = by_bit _ v _ (bit_at_xor a (bit_and a b) v ∙ ap (λ (x : ℕ). (bit_at a v + x) % 2) (bit_at_and a b v)) ∙ at (bit_at a v) (bit_at b v) (bit_at-lt a v) (bit_at-lt b v)
   where
-    by : (n < v) ⊎ (v ≤ n) → eqb ((2 ^ (n + 1) - 1) / 2 ^ v % 2) 1 ≡ leb v n
-    by (inl l) =
-        let p : 2 ^ (n + 1) ≤ 2 ^ v = up_to (n + 1) v (omega arith) in
-        let o = pow_pos (n + 1) in
-        let lt : 2 ^ (n + 1) - 1 < 2 ^ v = omega arith in
-        let q : (2 ^ (n + 1) - 1) / 2 ^ v ≡ 0 = div-eq_of_lt lt in
-        rw (q, lt-leb v n l) refl
-      where
-        up_to : (i j : ℕ) → i ≤ j → 2 ^ i ≤ 2 ^ j
-        up_to i j le = go (cases_eq i j)
-          where
-            go : (i ≡ j) ⊎ (i ≡ j → ⊥) → 2 ^ i ≤ 2 ^ j
-            go (inl e) = rw e (omega arith)
-            go (inr e) = let b = pow_below i j (omega arith) in omega arith
-    by (inr l) =
-        let k : ℕ = n - v in
-        let e : n + 1 ≡ (k + 1) + v = omega arith in
-        let s : 2 ^ (n + 1) - 1 ≡ (2 ^ (k + 1) - 1) * 2 ^ v + (2 ^ v - 1) = ap (λ (x : ℕ). 2 ^ x - 1) e ∙ ones_split (k + 1) v in
-        let o = pow_pos v in
-        let q : (2 ^ (n + 1) - 1) / 2 ^ v ≡ 2 ^ (k + 1) - 1 = ap (λ (x : ℕ). x / 2 ^ v) s ∙ shr_high (2 ^ (k + 1) - 1) v (2 ^ v - 1) (omega arith) in
-        let r : 2 ^ (k + 1) ≡ 2 ^ k * 2 ^ 1 = pow-add 2 k 1 in
-        let o2 = pow_pos k in
-        let t : (2 ^ (n + 1) - 1) / 2 ^ v % 2 ≡ 1 = omega arith in
-        rw (t, le-leb v n l) refl
+    at : (x y : ℕ) → x < 2 → y < 2 → eqb ((x + min x y) % 2) 1 ≡ (eqb x 1 && not (eqb y 1))
+    at x y p q = grind (arith, nat_tests)
+
+pub in_set_one : (w v : ℕ) → in_set (2 ^ w) v ≡ eqb v w
+in_set_one w v = ⊎_elim
+    (λ e. by_bit _ v 1 (ap (bit_at (2 ^ w)) e ∙ bit_at-pow_same w) ∙ sym (eq-eqb v w e))
+    (λ n. by_bit _ v 0 (bit_at-pow_other w v n) ∙ sym (ne_eqb v w n))
+    (cases_eq v w)
+
+-- all the words of a line
+pub in_set_line : (n v : ℕ) → in_set (2 ^ (n + 1) - 1) v ≡ leb v n
+in_set_line n v = ⊎_elim
+    (λ l. by_bit _ v 0 (bit_at_ones_above (n + 1) v (omega arith)) ∙ sym (lt-leb v n l))
+    (λ l. by_bit _ v 1 (bit_at_ones (n + 1) v (omega arith)) ∙ sym (le-leb v n l))
+    (cases_lt n v)
 
 -- ---- the lowest word of a set
-pub lowest_in : (k s : ℕ) → 0 < s → s < 2 ^ k → (count_trailing_zeros k s < k) × (in_set s (count_trailing_zeros k s) ≡ true)
-unfolding in_set count_trailing_zeros
-lowest_in zero s some few = absurd (omega arith)
-lowest_in (suc k) s some few = by (two (s % 2) (omega arith)) (lowest_in k (s / 2))
-  where
-    by : (s % 2 ≡ 0) ⊎ (s % 2 ≡ 1) → (0 < s / 2 → s / 2 < 2 ^ k → (count_trailing_zeros k (s / 2) < k) × (in_set (s / 2) (count_trailing_zeros k (s / 2)) ≡ true)) → (under (s % 2) (count_trailing_zeros k (s / 2)) < suc k) × (eqb (s / 2 ^ under (s % 2) (count_trailing_zeros k (s / 2)) % 2) 1 ≡ true)
-    by (inl e) more =
-        let p : 2 ^ (k + 1) ≡ 2 ^ k * 2 ^ 1 = pow-add 2 k 1 in
-        let c : suc k ≡ k + 1 = omega arith in
-        let few' : s < 2 ^ (k + 1) = subst (λ (x : ℕ). s < 2 ^ x) c few in
-        let r = more (omega arith) (omega arith) in
-        let t : ℕ = count_trailing_zeros k (s / 2) in
-        let u : under (s % 2) t ≡ suc t = ap (λ (x : ℕ). under x t) e in
-        let d : s / 2 ^ suc t ≡ s / 2 / 2 ^ t = let q : suc t ≡ 1 + t = omega arith in ap (λ (x : ℕ). s / 2 ^ x) q ∙ sym (shr-shr s 1 t) in
-        (rw u (omega (arith, r.0)), rw (u, d) r.1)
-    by (inr e) more =
-        let u : under (s % 2) (count_trailing_zeros k (s / 2)) ≡ 0 = ap (λ (x : ℕ). under x (count_trailing_zeros k (s / 2))) e in
-        let d : s / 2 ^ 0 ≡ s = omega arith in
-        (rw u (omega arith), rw (u, d, e) refl)
+in_parts : (s v : ℕ) → s / 2 ^ v * 2 ^ v + s % 2 ^ v ≡ s
+in_parts s v = ap (λ (x : ℕ). x + s % 2 ^ v) (mul_comm (s / 2 ^ v) (2 ^ v)) ∙ div-add-mod s (2 ^ v)
 
-and_true : (b : Bool) → (b && true) ≡ b
-and_true true = refl
-and_true false = refl
+-- one less, where the lowest bit is at w
+module _ (s w : ℕ) (here : bit_at s w ≡ 1) (below : (i : ℕ) → i < w → bit_at s i ≡ 0) where
+  above : (v : ℕ) → w < v → bit_at (s - 1) v ≡ bit_at s v
+  above v l =
+      let q : ℕ = s / 2 ^ v in
+      let r : ℕ = s % 2 ^ v in
+      let few = pow_pos v in
+      let e : q * 2 ^ v + r ≡ s = in_parts s v in
+      let at : bit_at r w ≡ 1 = sym (bit_at_cat_low q v r w l) ∙ ap (λ (x : ℕ). bit_at x w) e ∙ here in
+      let more : 0 < r = ⊎_elim (λ z. absurd (omega (arith, ap (λ (x : ℕ). bit_at x w) z, bit_at-zero w))) (λ n. omega arith) (cases_eq r 0) in
+      let f : s - 1 ≡ q * 2 ^ v + (r - 1) = omega arith in
+      ap (λ (x : ℕ). x / 2 ^ v % 2) f ∙ ap (λ (x : ℕ). x % 2) (shr_high q v (r - 1) (omega arith))
 
-and_false : (b : Bool) → (b && false) ≡ false
-and_false true = refl
-and_false false = refl
+  none_below : s % 2 ^ w ≡ 0
+  none_below =
+      let few = pow_pos w in
+      same_from_bits (s % 2 ^ w) 0 (λ i. ⊎_elim
+      (λ l. sym (bit_at_cat_low (s / 2 ^ w) w (s % 2 ^ w) i l) ∙ ap (λ (x : ℕ). bit_at x i) (in_parts s w) ∙ below i l ∙ sym (bit_at-zero i))
+      (λ l. bit_at_above (s % 2 ^ w) w i (omega arith) l ∙ sym (bit_at-zero i))
+      (cases_lt i w))
 
--- ---- words for which a set has no room
+  gone : bit_at (s - 1) w ≡ 0
+  gone =
+      let q : ℕ = s / 2 ^ w in
+      let few = pow_pos w in
+      let odd : q ≡ q - 1 + 1 = omega (arith, here) in
+      let e : (q - 1) * 2 ^ w + 2 ^ w + s % 2 ^ w ≡ s = ap (λ (x : ℕ). (q - 1) * 2 ^ w + x + s % 2 ^ w) (sym (one-mul (2 ^ w))) ∙ ap (λ (x : ℕ). x + s % 2 ^ w) (sym (add-mul (q - 1) 1 (2 ^ w))) ∙ ap (λ (x : ℕ). x * 2 ^ w + s % 2 ^ w) (sym odd) ∙ in_parts s w in
+      let f : s - 1 ≡ (q - 1) * 2 ^ w + (2 ^ w - 1) = omega (arith, none_below) in
+      ap (λ (x : ℕ). x / 2 ^ w % 2) f ∙ ap (λ (x : ℕ). x % 2) (shr_high (q - 1) w (2 ^ w - 1) (omega arith)) ∙ omega (arith, here)
+
+  others : (v : ℕ) → in_set (bit_and s (s - 1)) v ≡ (in_set s v && not (eqb v w))
+  unfolding in_set
+  others v = by_bit _ v _ (bit_at_and s (s - 1) v) ∙ at (bit_at s v) (bit_at (s - 1) v) (bit_at-lt s v) (below v) (λ e. ap (bit_at (s - 1)) e ∙ gone) (above v)
+    where
+      at : (x y : ℕ) → x < 2 → (v < w → x ≡ 0) → (v ≡ w → y ≡ 0) → (w < v → y ≡ x) → eqb (min x y) 1 ≡ (eqb x 1 && not (eqb v w))
+      at x y l p q r = grind (arith, nat_tests)
+
+module _ (s : ℕ) (some : 0 < s) (few : s < 2 ^ 64) where
+  pub lowest_in : (count_trailing_zeros 64 s < 64) × (in_set s (count_trailing_zeros 64 s) ≡ true)
+  lowest_in = let t = bit_at-trailing_zeros w64 s some few in (t.0, by_bit s _ 1 t.1)
+
+  -- s & (s - 1) is s without its lowest word
+  pub takes : Takes s (count_trailing_zeros 64 s) (bit_and s (s - 1))
+  takes =
+      let w : ℕ = count_trailing_zeros 64 s in
+      let t = bit_at-trailing_zeros w64 s some few in record {
+        near = t.0;
+        inside = by_bit s w 1 t.1;
+        lowest = λ v l. by_bit s v 0 (t.2 v l);
+        others = others s w t.1 t.2;
+      }
+
+-- words for which a set has no room
 pub in_set_beyond : (s w : ℕ) → s < 2 ^ 64 → 64 ≤ w → in_set s w ≡ false
-unfolding in_set
-in_set_beyond s w few far =
-    let lt : s < 2 ^ w = by (cases_eq 64 w) in
-    let q : s / 2 ^ w ≡ 0 = div-eq_of_lt lt in
-    rw q refl
-  where
-    by : (64 ≡ w) ⊎ (64 ≡ w → ⊥) → s < 2 ^ w
-    by (inl e) = subst (λ (x : ℕ). s < 2 ^ x) e few
-    by (inr ne) = let b = pow_below 64 w (omega arith) in omega arith
+in_set_beyond s w few far = by_bit s w 0 (bit_at_above s 64 w few far)
 
 pub only_near : (w v : ℕ) → w < 64 → in_set (2 ^ w) v ≡ (eqb v w && ltb w 64)
-only_near w v near = in_set_one w v ∙ sym (rw (lt-ltb w 64 near) (and_true (eqb v w)))
+only_near w v near = in_set_one w v ∙ grind (arith, nat_tests)
 
 pub only_far : (w v : ℕ) → 64 ≤ w → in_set 0 v ≡ (eqb v w && ltb w 64)
-only_far w v far = in_set_empty v ∙ sym (rw (le-ltb w 64 far) (and_false (eqb v w)))
+only_far w v far = in_set_empty v ∙ grind (arith, nat_tests)

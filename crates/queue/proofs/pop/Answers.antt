@@ -1,5 +1,4 @@
 use Rattle.std.proofs.Common.{◌≡◌, length, take, arith}
-use native.Mathlib.Nat.{sub-zero}
 use Rattle.std.proofs.lemmas.List.{length-take-le}
 use Rattle.queue.proofs.Ends.{popped}
 use Rattle.queue.proofs.pop.Goals as goal
@@ -9,4 +8,4 @@ returns g c =
     let a = c.args in
     let t = c.take_first.ensures in
     let n : length (take a.len a.slots.now) ≡ a.len = length-take-le a.len a.slots.now (omega arith) in
-    simp sub-zero (popped g.T.Ranked.above g.met.T.Ranked.ranks a.slots.now c.take_first.new.heap a.len _ c.take_first.result (omega arith) (omega arith) (omega arith) (simp sub-zero at t.same) (simp sub-zero at t.left) (simp sub-zero at t.ordered) (simp sub-zero at t.greatest))
+    popped g.T.Ranked.above g.met.T.Ranked.ranks a.slots.now c.take_first.new.heap a.len _ c.take_first.result (omega arith) (omega arith) (omega arith) t.same t.left t.ordered t.greatest

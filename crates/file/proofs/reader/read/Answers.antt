@@ -13,7 +13,9 @@ pub returns : goal.returns
 returns g c =
     let f = g.K.Recorded.format in
     let file = c.args.file.now in
+    let weights = c.args.weights.now in
+    let sets = c.args.sets.now in
     let fresh = opened _ _ _ _ c.in_ok-sheet.ensures in
     let done = made _ _ _ _ c.in_ok-fill.ensures in
-    let all = from_fresh f _ _ (record_count f.width file) file _ _ _ _ _ fresh.1.0 fresh.1.1 done.1 in
+    let all = from_fresh f c.in_ok-words.words c.in_ok-sheet.sheet.words (record_count f.width file) file weights c.fill.new.weights sets c.open.new.sets c.fill.new.sets fresh.1.0 fresh.1.1 done.1 in
     search rules
