@@ -201,14 +201,22 @@ impl<K: Opens + Copy> Memory<K> {
     pub fn litter(&mut self, weight: K)
         ensures { parts_of self.new ≡ record (parts_of self.old) { nodes = self.new.nodes.items; merges = self.new.merges.items; potentials = self.new.potentials.items } }
     {
-        self.nodes.fill(Node::new(weight));
-        self.merges.fill(Node::new(weight));
-        self.potentials.fill(Root::new(0, weight));
+        for node in self.nodes.iter_mut() {
+            *node = Node::new(weight);
+        }
+        for merge in self.merges.iter_mut() {
+            *merge = Node::new(weight);
+        }
+        for potential in self.potentials.iter_mut() {
+            *potential = Root::new(0, weight);
+        }
     }
 }
 
 impl<K: Recorded + Copy> Memory<K> {
+    ghost use Rattle.desk.specs.Parts.{parts_of};
     ghost use Rattle.file.specs.Reading.{ReadAs};
+    ghost use Rattle.ranking.specs.Calls.{lengths_of};
 
     // Reads a file of the kind: opens a sheet and puts the file's records on it.
     pub fn read(&mut self, file: &[u8]) -> Result<Sheet<K>, FileFault>

@@ -4,6 +4,8 @@ use Rattle.ranking.specs.Calls.{lengths_of}
 use Rattle.ranking.specs.Memory.{Memory}
 use Rattle.refusal.specs.declared.Refusal.TheVariants.{WordCount, ShortMemory, ShortSpace}
 use Rattle.refusal.specs.declared.Refusal.{Refusal}
+use Rattle.run.specs.Loans.{lists_of, SameLoans}
+use Rattle.run.specs.declared.Memory.{Memory as Loans}
 use Rattle.run.specs.Law.{Run, standing, taken, taken_after, ranks, ranks_after, Answers, Keeps}
 use Rattle.run.specs.Steps.{words_of, ranked, SameRest, Is, Stepped, Ran, run_check}
 use Rattle.run.specs.declared.Call.{Call}
@@ -28,9 +30,20 @@ same_more n a b c p q = record {
   others = record { candidates = q.others.candidates ∙ p.others.candidates; nodes = q.others.nodes ∙ p.others.nodes; merges = q.others.merges ∙ p.others.merges; potentials = q.others.potentials ∙ p.others.potentials };
 }
 
--- parts of the same lengths are as long as before
-pub still_long : (n : ℕ) (l m : Lengths) → m.weights ≡ l.weights → m.sets ≡ l.sets → m.candidates ≡ l.candidates → m.nodes ≡ l.nodes → m.merges ≡ l.merges → m.potentials ≡ l.potentials → too_short n l ≡ false → too_short n m ≡ false
-still_long n l m a b c d e f short = rw (a, b, c, d, e, f) short
+-- the same parts are as long as before
+pub still_long : {K : Type 0} (n : ℕ) (before after : Loans K) → SameLoans before after → too_short n (lengths_of (lists_of before)) ≡ false → too_short n (lengths_of (lists_of after)) ≡ false
+still_long n before after p short = rw (p.weights_long, p.sets_long, p.candidates_long, p.working.1.0, p.working.1.1, p.working.1.2) short
+
+pub same_on : {K : Type 0} (a b c : Loans K) → SameLoans a b → SameLoans b c → SameLoans a c
+same_on a b c p q = record {
+  weights = q.weights ∙ p.weights;
+  sets = q.sets ∙ p.sets;
+  candidates = q.candidates ∙ p.candidates;
+  weights_long = q.weights_long ∙ p.weights_long;
+  sets_long = q.sets_long ∙ p.sets_long;
+  candidates_long = q.candidates_long ∙ p.candidates_long;
+  working = ((q.working.0.0 ∙ p.working.0.0, q.working.0.1 ∙ p.working.0.1, q.working.0.2 ∙ p.working.0.2), (q.working.1.0 ∙ p.working.1.0, q.working.1.1 ∙ p.working.1.1, q.working.1.2 ∙ p.working.1.2));
+}
 
 module _ {K : Type 0} (worth : K → Worth) (ranges : List Range) (n : ℕ) (first : Memory K) where
   -- where the run stands after some turns, the newest first
@@ -95,7 +108,7 @@ module _ {K : Type 0} (worth : K → Worth) (ranges : List Range) (n : ℕ) (fir
       }
 
   -- a fresh sheet
-  pub fresh : (sheet : Sheet K) (calls : List (Call K)) (turns : List (Turn K)) (weights : List K) (sets : List ℕ) → sheet.words ≡ n → Holds n no_arcs first.weights first.weights sets first.sets → Noted calls turns turns 0 (Open sheet) first
+  pub fresh : (sheet : Sheet K) (calls : List (Call K)) (turns : List (Turn K)) (weights : List K) (sets : List ℕ) → sheet.words ≡ n → Holds n no_arcs weights first.weights sets first.sets → Noted calls turns turns 0 (Open sheet) first
   fresh sheet calls turns weights sets e h = record {
     calls_are = refl;
     turns_are = refl;

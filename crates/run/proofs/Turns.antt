@@ -1,6 +1,5 @@
 -- Single turns of a run.
 use Rattle.std.proofs.Common.{◌≡◌, ℕ, ◌+◌, ◌*◌, ◌<◌, ◌≤◌, min, Bool, true, false, cond, not, ◌||◌, ltb, ◌⊎◌, List, ◌∷◌, ◌++◌, length, take, drop, is_some, is_ok, Some, None, Ok, Err, Option, Result, sym, refl, ap, ◌∙◌, subst, inl, inr, arith}
-use Rattle.sheet.specs.declared.Candidate.{Candidate}
 use Rattle.ranking.specs.Calls.{lengths_of, take_check, SameBeyond, Took}
 use Rattle.ranking.specs.Memory.{Memory, HoldsArcs, StandsFor}
 use Rattle.ranking.specs.Takes.{HandedOut}
@@ -16,7 +15,6 @@ use Rattle.run.specs.declared.Call.TheVariants.{Put, Strike, Begin, Take, End}
 use Rattle.run.specs.declared.Call.{Call}
 use Rattle.run.specs.declared.State.TheVariants.{Open, Ranked}
 use Rattle.run.specs.declared.State.{State}
-use Rattle.search.specs.declared.family.Node.{Node}
 use Rattle.sheet.proofs.Tables.{last_passes}
 use Rattle.sheet.specs.Arcs.{Arcs, arcs_in, with_arc, named}
 use Rattle.sheet.specs.Calls.{or_else, refuse_if, memory_check, arc_check, ends_check, put_check, strike_check, too_short, Answered, Holds}
@@ -25,11 +23,6 @@ use Rattle.std.proofs.lemmas.List.{take-append-le}
 use Rattle.std.proofs.lemmas.Bool.{cases_lt, lt-ltb, or_parts, not-false}
 use Rattle.weight.specs.Range.{Range, entry_in}
 use Rattle.weight.specs.Worth.{Worth}
-use Rattle.weight.specs.Layers.{Root}
-
--- the parts of a memory together
-abbrev pub memory_of : {K : Type 0} → List K → List ℕ → List (Candidate K) → List (Node K) → List (Node K) → List (Root K) → Memory K
-memory_of weights sets candidates nodes merges potentials = record { weights = weights; sets = sets; candidates = candidates; nodes = nodes; merges = merges; potentials = potentials }
 
 pub same_all : {K : Type 0} (n : ℕ) (memory : Memory K) → SameRest n memory memory
 same_all n memory = record { weights = refl; sets = refl; others = record { candidates = refl; nodes = refl; merges = refl; potentials = refl } }

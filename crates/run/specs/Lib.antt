@@ -1,2 +1,3 @@
 pub mod Law
+pub mod Loans
 pub mod Steps

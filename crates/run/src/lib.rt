@@ -1,25 +1,37 @@
 // Runs of calls: a list of calls on a fresh sheet, each with its answer.
 #![tactic(auto)]
 
-ghost use Rattle.std.specs.Prelude.{◌≡◌, ℕ, ◌<◌, ◌≤◌, List, length, slice_set};
-ghost use Rattle.ranking.specs.Memory.{Memory};
-ghost use Rattle.sheet.specs.declared.Candidate.{Candidate};
+ghost use Rattle.std.specs.Prelude.{◌≡◌, List, length, IfOk};
+ghost use Rattle.ranking.specs.Calls.{lengths_of};
+ghost use Rattle.ranking.specs.Memory.{memory_of};
 ghost use Rattle.run.specs.Law.{RanksTruly};
+ghost use Rattle.run.specs.Loans.{lists_of, SameLoans};
 ghost use Rattle.run.specs.Steps.{Ran, Stepped, run_check, told_by};
 ghost use Rattle.run.specs.declared.Call.TheVariants.{Take};
 ghost use Rattle.run.specs.declared.State.TheVariants.{Open, Ranked};
-ghost use Rattle.search.specs.declared.family.Node.{Node};
-ghost use Rattle.weight.specs.Layers.{Root};
-ghost use Rattle.sheet.specs.Calls.{Answered};
+ghost use Rattle.search.specs.Space.{SameParts};
+ghost use Rattle.search.specs.declared.working.Working.{Working};
+ghost use Rattle.sheet.specs.Arcs.{no_arcs};
+ghost use Rattle.sheet.specs.Calls.{Answered, Holds, open_check};
+ghost use Rattle.sheet.specs.declared.Candidate.{Candidate};
 
 use ranking::{Ranking, Taken};
 use refusal::Refusal;
-use search::Node;
-use sheet::{Candidate, Sheet};
-use weight::{Opens, Root};
+use search::Working;
+use sheet::{Candidate, Sheet, Spare};
+use weight::Opens;
+
+// The memory that a run works in, lent together.
+#[derive(Drop)]
+pub struct Memory<'a, K> {
+    pub weights: &'a mut [K],
+    pub sets: &'a mut [u64],
+    pub candidates: &'a mut [Candidate<K>],
+    pub working: Working<'a, K>,
+}
 
 // A call on a sheet or on its ranking. A take says how many bytes of space it is given.
-#[derive(Clone, Copy)]
+#[derive(Clone, Copy, PartialEq, Eq, Debug)]
 pub enum Call<K> {
     Put(usize, usize, K),
     Strike(usize, usize),
@@ -29,7 +41,7 @@ pub enum Call<K> {
 }
 
 // What a call answered.
-#[derive(Clone, Copy)]
+#[derive(Clone, Copy, PartialEq, Eq, Debug)]
 pub enum Answer<K> {
     // a put, strike, begin or end was done
     Done,
@@ -42,7 +54,7 @@ pub enum Answer<K> {
 }
 
 // A call with its answer.
-#[derive(Clone, Copy)]
+#[derive(Clone, Copy, PartialEq, Eq, Debug)]
 pub struct Turn<K> {
     pub call: Call<K>,
     pub answer: Answer<K>,
@@ -55,18 +67,17 @@ enum State<K> {
     Ranked(Ranking<K>),
 }
 
-// Takes a tree into so many bytes of space.
+// Takes a tree into so many bytes of space. The parts are lent one by one, since a part behind a `&mut Memory` is not lent as a `&` beside others.
 fn take_into<K: Opens + Copy>(
     ranking: &mut Ranking<K>,
     room: usize,
-    weights: &[K],
+    weights: &mut [K],
     sets: &mut [u64],
     candidates: &mut [Candidate<K>],
-    nodes: &mut [Node<K>],
-    merges: &mut [Node<K>],
-    potentials: &mut [Root<K>],
+    working: &mut Working<'_, K>,
 ) -> Answer<K>
-    ensures { Stepped K.Kind.worth K.Kind.ranges (Ranked ranking.old) (Ranked ranking.new) (record { weights = weights.now; sets = sets.old; candidates = candidates.old; nodes = nodes.old; merges = merges.old; potentials = potentials.old }) (record { weights = weights.now; sets = sets.new; candidates = candidates.new; nodes = nodes.new; merges = merges.new; potentials = potentials.new }) (Take room) result }
+    ensures stepped { Stepped K.Kind.worth K.Kind.ranges (Ranked ranking.old) (Ranked ranking.new) (memory_of weights.old sets.old candidates.old working.old) (memory_of weights.new sets.new candidates.new working.new) (Take room) result }
+    ensures parts { SameParts working.old working.new }
 {
     let mut heads = [0; 40];
     let lent = room.min(40);
@@ -75,9 +86,7 @@ fn take_into<K: Opens + Copy>(
         weights,
         sets,
         candidates,
-        nodes,
-        merges,
-        potentials,
+        working,
         &mut heads[..lent],
     ) {
         Ok(taken) => Answer::Handed(heads, taken),
@@ -85,13 +94,15 @@ fn take_into<K: Opens + Copy>(
     }
 }
 
-// The answer to a put or a strike.
-fn told<K>(done: Result<(), Refusal>) -> Answer<K>
-    ensures { result ≡ told_by done }
-{
-    match done {
-        Ok(()) => Answer::Done,
-        Err(why) => Answer::Refused(why),
+// A put or a strike is done or refused.
+impl<K> From<Result<(), Refusal>> for Answer<K> {
+    ghost from_gives = { λ done answer. answer ≡ told_by done };
+
+    fn from(done: Result<(), Refusal>) -> Answer<K> {
+        match done {
+            Ok(()) => Answer::Done,
+            Err(why) => Answer::Refused(why),
+        }
     }
 }
 
@@ -102,16 +113,16 @@ fn on_sheet<K: Opens + Copy>(
     weights: &mut [K],
     sets: &mut [u64],
 ) -> (State<K>, Answer<K>)
-    ensures { (candidates : List (Candidate K)) (nodes merges : List (Node K)) (potentials : List (Root K)) → Stepped K.Kind.worth K.Kind.ranges (Open sheet) result.0 (record { weights = weights.old; sets = sets.old; candidates = candidates; nodes = nodes; merges = merges; potentials = potentials }) (record { weights = weights.new; sets = sets.new; candidates = candidates; nodes = nodes; merges = merges; potentials = potentials }) call result.1 }
+    ensures { (candidates : List (Candidate K)) (working : Working K) → Stepped K.Kind.worth K.Kind.ranges (Open sheet) result.0 (memory_of weights.old sets.old candidates working) (memory_of weights.new sets.new candidates working) call result.1 }
 {
     match call {
         Call::Put(head, dependent, weight) => {
-            let answer = told(sheet::put(&sheet, weights, sets, head, dependent, weight));
-            (State::Open(sheet), answer)
+            let done = sheet::put(&sheet, weights, sets, head, dependent, weight);
+            (State::Open(sheet), Answer::from(done))
         }
         Call::Strike(head, dependent) => {
-            let answer = told(sheet::strike(&sheet, weights, sets, head, dependent));
-            (State::Open(sheet), answer)
+            let done = sheet::strike(&sheet, weights, sets, head, dependent);
+            (State::Open(sheet), Answer::from(done))
         }
         Call::Begin => {
             let ranking = ranking::begin(sheet);
@@ -125,26 +136,20 @@ fn on_sheet<K: Opens + Copy>(
 fn on_ranking<K: Opens + Copy>(
     mut ranking: Ranking<K>,
     call: Call<K>,
-    weights: &[K],
-    sets: &mut [u64],
-    candidates: &mut [Candidate<K>],
-    nodes: &mut [Node<K>],
-    merges: &mut [Node<K>],
-    potentials: &mut [Root<K>],
+    memory: &mut Memory<'_, K>,
 ) -> (State<K>, Answer<K>)
-    ensures { Stepped K.Kind.worth K.Kind.ranges (Ranked ranking) result.0 (record { weights = weights.now; sets = sets.old; candidates = candidates.old; nodes = nodes.old; merges = merges.old; potentials = potentials.old }) (record { weights = weights.now; sets = sets.new; candidates = candidates.new; nodes = nodes.new; merges = merges.new; potentials = potentials.new }) call result.1 }
+    ensures stepped { Stepped K.Kind.worth K.Kind.ranges (Ranked ranking) result.0 (lists_of memory.old) (lists_of memory.new) call result.1 }
+    ensures parts { SameLoans memory.old memory.new }
 {
     match call {
         Call::Take(room) => {
             let answer = take_into(
                 &mut ranking,
                 room,
-                weights,
-                sets,
-                candidates,
-                nodes,
-                merges,
-                potentials,
+                memory.weights,
+                memory.sets,
+                memory.candidates,
+                &mut memory.working,
             );
             (State::Ranked(ranking), answer)
         }
@@ -160,60 +165,76 @@ fn on_ranking<K: Opens + Copy>(
 fn step<K: Opens + Copy>(
     state: State<K>,
     call: Call<K>,
-    weights: &mut [K],
-    sets: &mut [u64],
-    candidates: &mut [Candidate<K>],
-    nodes: &mut [Node<K>],
-    merges: &mut [Node<K>],
-    potentials: &mut [Root<K>],
+    memory: &mut Memory<'_, K>,
 ) -> (State<K>, Answer<K>)
-    ensures { Stepped K.Kind.worth K.Kind.ranges state result.0 (record { weights = weights.old; sets = sets.old; candidates = candidates.old; nodes = nodes.old; merges = merges.old; potentials = potentials.old }) (record { weights = weights.new; sets = sets.new; candidates = candidates.new; nodes = nodes.new; merges = merges.new; potentials = potentials.new }) call result.1 }
+    ensures stepped { Stepped K.Kind.worth K.Kind.ranges state result.0 (lists_of memory.old) (lists_of memory.new) call result.1 }
+    ensures parts { SameLoans memory.old memory.new }
 {
     match state {
-        State::Open(sheet) => on_sheet(sheet, call, weights, sets),
-        State::Ranked(ranking) => on_ranking(
-            ranking, call, weights, sets, candidates, nodes, merges, potentials,
-        ),
+        State::Open(sheet) => on_sheet(sheet, call, memory.weights, memory.sets),
+        State::Ranked(ranking) => on_ranking(ranking, call, memory),
     }
 }
 
-// Notes a turn.
-fn note<K: Copy>(turns: &mut [Turn<K>], at: usize, turn: Turn<K>)
-    requires { at < length turns.old }
-    ensures { turns.new ≡ slice_set turns.old at turn }
+// What a sheet asks for beside the parts that hold its arcs.
+fn spare<'a, K>(candidates: &'a [Candidate<K>], working: &'a Working<'_, K>) -> Spare<'a, K>
+    ensures candidates { result.candidates.now ≡ candidates.now }
+    ensures nodes { result.nodes.now ≡ working.now.nodes.now }
+    ensures merges { result.merges.now ≡ working.now.merges.now }
+    ensures potentials { result.potentials.now ≡ working.now.potentials.now }
 {
-    turns[at] = turn;
+    Spare {
+        candidates,
+        nodes: working.nodes,
+        merges: working.merges,
+        potentials: working.potentials,
+    }
+}
+
+// Opens a sheet; of the memory only the sets are written.
+fn opened<K: Opens + Copy>(
+    words: usize,
+    weights: &mut [K],
+    sets: &mut [u64],
+    candidates: &mut [Candidate<K>],
+    working: &mut Working<'_, K>,
+) -> Result<Sheet<K>, Refusal>
+    ensures opened { Answered (open_check words (lengths_of (memory_of weights.old sets.old candidates.old working.old))) result (sets.new ≡ sets.old) (IfOk result (λ s. s.words ≡ words) × Holds words no_arcs weights.old weights.new sets.old sets.new) }
+    ensures weights { weights.new ≡ weights.old }
+    ensures candidates { candidates.new ≡ candidates.old }
+    ensures working { working.new ≡ working.old }
+{
+    sheet::open(words, weights, sets, spare(candidates, working))
 }
 
 // Opens a sheet of so many words, makes the calls in their order, and notes each with its answer.
 pub fn run<K: Opens + Copy>(
     words: usize,
     calls: &[Call<K>],
-    weights: &mut [K],
-    sets: &mut [u64],
-    candidates: &mut [Candidate<K>],
-    nodes: &mut [Node<K>],
-    merges: &mut [Node<K>],
-    potentials: &mut [Root<K>],
+    memory: &mut Memory<'_, K>,
     turns: &mut [Turn<K>],
 ) -> Result<(), Refusal>
-    ensures { Answered (run_check words (record { weights = length weights.old; sets = length sets.old; candidates = length candidates.old; nodes = length nodes.old; merges = length merges.old; potentials = length potentials.old }) (length calls.now) (length turns.old)) result ((◌≡◌ {A = Memory K} (record { weights = weights.new; sets = sets.new; candidates = candidates.new; nodes = nodes.new; merges = merges.new; potentials = potentials.new }) (record { weights = weights.old; sets = sets.old; candidates = candidates.old; nodes = nodes.old; merges = merges.old; potentials = potentials.old })) × (turns.new ≡ turns.old)) (Ran K.Kind.worth K.Kind.ranges words calls.now (record { weights = weights.old; sets = sets.old; candidates = candidates.old; nodes = nodes.old; merges = merges.old; potentials = potentials.old }) (record { weights = weights.new; sets = sets.new; candidates = candidates.new; nodes = nodes.new; merges = merges.new; potentials = potentials.new }) turns.old turns.new) }
+    ensures ran { Answered (run_check words (lengths_of (lists_of memory.old)) (length calls.now) (length turns.old)) result ((lists_of memory.new ≡ lists_of memory.old) × (turns.new ≡ turns.old)) (Ran K.Kind.worth K.Kind.ranges words calls.now (lists_of memory.old) (lists_of memory.new) turns.old turns.new) }
+    ensures parts { SameLoans memory.old memory.new }
 {
     if turns.len() < calls.len() {
         return Err(Refusal::ShortSpace);
     }
-    let sheet = match sheet::open(words, weights, sets, candidates, nodes, merges, potentials) {
-        Ok(sheet) => sheet,
-        Err(why) => return Err(why),
-    };
+    let sheet = opened(
+        words,
+        memory.weights,
+        memory.sets,
+        memory.candidates,
+        &mut memory.working,
+    )?;
     let mut state = State::Open(sheet);
-    for i in 0..calls.len() {
-        let call = calls[i];
-        let (next, answer) = step(
-            state, call, weights, sets, candidates, nodes, merges, potentials,
-        );
+    for (i, call) in calls.iter().enumerate() {
+        let (next, answer) = step(state, *call, memory);
         state = next;
-        note(turns, i, Turn { call, answer });
+        turns[i] = Turn {
+            call: *call,
+            answer,
+        };
     }
     drop(state);
     Ok(())

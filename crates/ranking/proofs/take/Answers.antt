@@ -1,11 +1,10 @@
-use Rattle.std.proofs.Common.{◌≡◌, ℕ, ◌+◌, ◌-◌, ◌<◌, ◌≤◌, List, ◌++◌, length, take, drop, set, Ok, Err, Option, Result, sym, refl, ap, ◌∙◌, arith, rules}
+use Rattle.std.proofs.Common.{◌≡◌, ℕ, ◌+◌, ◌-◌, ◌<◌, ◌≤◌, List, ◌++◌, length, take, drop, Ok, Err, sym, refl, ap, ◌∙◌, arith, rules}
 use Rattle.std.proofs.lemmas.List.{length-take-le, drop-set-lt, take_at, drop_at}
 use Rattle.std.proofs.lemmas.Result.{err_from_is_err_and}
 use Rattle.std.proofs.lemmas.Slice.{drop-append-drop}
 use Rattle.ranking.specs.Calls.{lengths_of, passes_unless, take_check}
 use Rattle.ranking.specs.Memory.{Memory, memory_of}
 use Rattle.ranking.specs.declared.state.Ranking.{Ranking}
-use Rattle.refusal.specs.declared.Refusal.{Refusal}
 use Rattle.ranking.proofs.Splits.{further}
 use Rattle.ranking.proofs.Taking.{RoomFor, passed, stopped, room_for, refused_first, none_found, tree_found}
 use Rattle.ranking.proofs.take.Goals as goal
