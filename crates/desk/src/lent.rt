@@ -1,16 +1,13 @@
 // The calls that are lent their memory in a struct, over a slice for each part.
 ghost use Rattle.std.specs.Prelude.{◌≡◌, ℕ, ◌+◌, length};
 ghost use Rattle.desk.specs.Lent.{parts};
-ghost use Rattle.ranking.specs.Calls.{Took, lengths_of};
-ghost use Rattle.run.specs.Steps.{Ran, run_check};
+ghost use Rattle.ranking.specs.Calls.{Took};
 ghost use Rattle.search.specs.Answer.{Searched, barring};
 ghost use Rattle.search.specs.Arcs.{allowed, weight_at};
 ghost use Rattle.search.specs.State.{Room};
-ghost use Rattle.sheet.specs.Calls.{Answered};
 
 use ranking::{Ranking, Taken, take};
 use refusal::Refusal;
-use run::{Call, Turn, run};
 use search::{Node, Working, best_tree, best_tree_barring};
 use sheet::Candidate;
 use weight::{Kind, Opens, Root};
@@ -78,31 +75,4 @@ pub(crate) fn take_in<K: Opens + Copy>(
         potentials,
     };
     take(ranking, weights, sets, candidates, working, space)
-}
-
-// Makes the calls on a fresh sheet of so many words.
-pub(crate) fn run_in<'a, K: Opens + Copy>(
-    words: usize,
-    calls: &[Call<K>],
-    weights: &'a mut [K],
-    sets: &'a mut [u64],
-    candidates: &'a mut [Candidate<K>],
-    nodes: &'a mut [Node<K>],
-    merges: &'a mut [Node<K>],
-    potentials: &'a mut [Root<K>],
-    turns: &mut [Turn<K>],
-) -> Result<(), Refusal>
-    ensures { Answered (run_check words (lengths_of (parts weights.old sets.old candidates.old nodes.old merges.old potentials.old)) (length calls.now) (length turns.old)) result ((parts weights.new sets.new candidates.new nodes.new merges.new potentials.new ≡ parts weights.old sets.old candidates.old nodes.old merges.old potentials.old) × (turns.new ≡ turns.old)) (Ran K.Kind.worth K.Kind.ranges words calls.now (parts weights.old sets.old candidates.old nodes.old merges.old potentials.old) (parts weights.new sets.new candidates.new nodes.new merges.new potentials.new) turns.old turns.new) }
-{
-    let memory = &mut run::Memory {
-        weights,
-        sets,
-        candidates,
-        working: Working {
-            nodes,
-            merges,
-            potentials,
-        },
-    };
-    run(words, calls, memory, turns)
 }

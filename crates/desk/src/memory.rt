@@ -1,11 +1,10 @@
 // The memory of a sheet, and the calls that work in it.
 ghost use Rattle.std.specs.Prelude.{◌≡◌, ℕ, ◌+◌, length, replicate, is_some, IfOk, Some, None, vec_len};
 
-use crate::lent::{run_in, search_barring_in, search_in, take_in};
+use crate::lent::{search_barring_in, search_in, take_in};
 use file::{FileFault, Recorded};
 use ranking::{Ranking, Taken};
 use refusal::Refusal;
-use run::{Call, Turn};
 use search::Node;
 use sheet::{Candidate, Sheet, Spare};
 use std::alloc::{AllocError, Global};
@@ -28,7 +27,6 @@ pub struct Memory<K> {
 impl<K: Opens + Copy> Memory<K> {
     ghost use Rattle.desk.specs.Parts.{parts_of};
     ghost use Rattle.ranking.specs.Calls.{Took, lengths_of};
-    ghost use Rattle.run.specs.Steps.{Ran, run_check};
     ghost use Rattle.search.specs.Answer.{Searched, barring};
     ghost use Rattle.search.specs.Arcs.{allowed, weight_at};
     ghost use Rattle.search.specs.State.{Room};
@@ -56,17 +54,13 @@ impl<K: Opens + Copy> Memory<K> {
         ensures answer { Answered (open_check words (lengths_of (parts_of self.old))) result (self.new.sets.items ≡ self.old.sets.items) (IfOk result (λ s. s.words ≡ words) × Holds words no_arcs self.old.weights.items self.new.weights.items self.old.sets.items self.new.sets.items) }
         ensures others { parts_of self.new ≡ record (parts_of self.old) { sets = self.new.sets.items } }
     {
-        sheet::open(
-            words,
-            self.weights.as_slice(),
-            self.sets.as_mut_slice(),
-            Spare {
-                candidates: self.candidates.as_slice(),
-                nodes: self.nodes.as_slice(),
-                merges: self.merges.as_slice(),
-                potentials: self.potentials.as_slice(),
-            },
-        )
+        let spare = Spare {
+            candidates: &self.candidates,
+            nodes: &self.nodes,
+            merges: &self.merges,
+            potentials: &self.potentials,
+        };
+        sheet::open(words, &self.weights, &mut self.sets, spare)
     }
 
     // Gives an arc a weight, in place of any that it had.
@@ -80,33 +74,16 @@ impl<K: Opens + Copy> Memory<K> {
         ensures answer { Answered (put_check sheet.now.words 1640 40 head dependent (entry_in K.Kind.ranges (K.Kind.worth weight))) result ((self.new.weights.items ≡ self.old.weights.items) × (self.new.sets.items ≡ self.old.sets.items)) (Holds sheet.now.words (with_arc head dependent (Some weight) (arcs_in sheet.now.words self.old.weights.items self.old.sets.items)) self.old.weights.items self.new.weights.items self.old.sets.items self.new.sets.items) }
         ensures others { parts_of self.new ≡ record (parts_of self.old) { weights = self.new.weights.items; sets = self.new.sets.items } }
     {
-        sheet::put(
-            sheet,
-            self.weights.as_mut_slice(),
-            self.sets.as_mut_slice(),
-            head,
-            dependent,
-            weight,
-        )
+        let Memory { weights, sets, .. } = self;
+        sheet::put(sheet, weights, sets, head, dependent, weight)
     }
 
     // Makes an arc absent.
-    pub fn strike(
-        &mut self,
-        sheet: &Sheet<K>,
-        head: usize,
-        dependent: usize,
-    ) -> Result<(), Refusal>
+    pub fn strike(&mut self, sheet: &Sheet<K>, head: usize, dependent: usize) -> Result<(), Refusal>
         ensures answer { Answered (strike_check sheet.now.words 1640 40 head dependent (is_some (arcs_in sheet.now.words self.old.weights.items self.old.sets.items head dependent))) result (self.new.sets.items ≡ self.old.sets.items) (Holds sheet.now.words (with_arc head dependent None (arcs_in sheet.now.words self.old.weights.items self.old.sets.items)) self.old.weights.items self.new.weights.items self.old.sets.items self.new.sets.items) }
         ensures others { parts_of self.new ≡ record (parts_of self.old) { sets = self.new.sets.items } }
     {
-        sheet::strike(
-            sheet,
-            self.weights.as_slice(),
-            self.sets.as_mut_slice(),
-            head,
-            dependent,
-        )
+        sheet::strike(sheet, &self.weights, &mut self.sets, head, dependent)
     }
 
     // The heaviest tree of the line over the arcs that stand, with the first words held, each at its head in `held`.
@@ -119,16 +96,14 @@ impl<K: Opens + Copy> Memory<K> {
         ensures told { Searched K.Kind.worth K.Kind.ranges words (allowed self.old.sets.items held.now) (weight_at K.Kind.worth words self.old.weights.items) (Room words 40 1640 41 39 41) heads.old heads.new result }
         ensures others { parts_of self.new ≡ record (parts_of self.old) { nodes = self.new.nodes.items; merges = self.new.merges.items; potentials = self.new.potentials.items } }
     {
-        search_in(
-            words,
-            &self.sets,
-            &self.weights,
-            held,
-            &mut self.nodes,
-            &mut self.merges,
-            &mut self.potentials,
-            heads,
-        )
+        let (weights, sets) = (&self.weights, &self.sets);
+        let Memory {
+            nodes,
+            merges,
+            potentials,
+            ..
+        } = self;
+        search_in(words, sets, weights, held, nodes, merges, potentials, heads)
     }
 
     // The same without the arcs from the barred heads into the first word that is not held.
@@ -142,58 +117,34 @@ impl<K: Opens + Copy> Memory<K> {
         ensures told { Searched K.Kind.worth K.Kind.ranges words (barring (allowed self.old.sets.items held.now) (length held.now + 1) barred) (weight_at K.Kind.worth words self.old.weights.items) (Room words 40 1640 41 39 41) heads.old heads.new result }
         ensures others { parts_of self.new ≡ record (parts_of self.old) { nodes = self.new.nodes.items; merges = self.new.merges.items; potentials = self.new.potentials.items } }
     {
+        let weights = &self.weights;
+        let Memory {
+            sets,
+            nodes,
+            merges,
+            potentials,
+            ..
+        } = self;
         search_barring_in(
-            words,
-            self.sets.as_mut_slice(),
-            self.weights.as_slice(),
-            held,
-            barred,
-            self.nodes.as_mut_slice(),
-            self.merges.as_mut_slice(),
-            self.potentials.as_mut_slice(),
-            heads,
+            words, sets, weights, held, barred, nodes, merges, potentials, heads,
         )
     }
 
     // Takes a tree of the ranking: its heads go to the front of the space.
-    pub fn take(
-        &mut self,
-        ranking: &mut Ranking<K>,
-        space: &mut [u8],
-    ) -> Result<Taken<K>, Refusal>
+    pub fn take(&mut self, ranking: &mut Ranking<K>, space: &mut [u8]) -> Result<Taken<K>, Refusal>
         ensures { Took K.Kind.worth K.Kind.ranges ranking.old ranking.new (parts_of self.old) (parts_of self.new) space.old space.new result }
     {
+        let weights = &self.weights;
+        let Memory {
+            sets,
+            candidates,
+            nodes,
+            merges,
+            potentials,
+            ..
+        } = self;
         take_in(
-            ranking,
-            self.weights.as_slice(),
-            self.sets.as_mut_slice(),
-            self.candidates.as_mut_slice(),
-            self.nodes.as_mut_slice(),
-            self.merges.as_mut_slice(),
-            self.potentials.as_mut_slice(),
-            space,
-        )
-    }
-
-    // Opens a sheet of so many words, makes the calls in their order, and notes each with its answer.
-    pub fn run(
-        &mut self,
-        words: usize,
-        calls: &[Call<K>],
-        turns: &mut [Turn<K>],
-    ) -> Result<(), Refusal>
-        ensures { Answered (run_check words (lengths_of (parts_of self.old)) (length calls.now) (length turns.old)) result ((parts_of self.new ≡ parts_of self.old) × (turns.new ≡ turns.old)) (Ran K.Kind.worth K.Kind.ranges words calls.now (parts_of self.old) (parts_of self.new) turns.old turns.new) }
-    {
-        run_in(
-            words,
-            calls,
-            self.weights.as_mut_slice(),
-            self.sets.as_mut_slice(),
-            self.candidates.as_mut_slice(),
-            self.nodes.as_mut_slice(),
-            self.merges.as_mut_slice(),
-            self.potentials.as_mut_slice(),
-            turns,
+            ranking, weights, sets, candidates, nodes, merges, potentials, space,
         )
     }
 
@@ -223,16 +174,12 @@ impl<K: Recorded + Copy> Memory<K> {
         ensures answer { ReadAs K.format (lengths_of (parts_of self.old)) file.now result self.old.weights.items self.new.weights.items self.old.sets.items self.new.sets.items }
         ensures others { parts_of self.new ≡ record (parts_of self.old) { weights = self.new.weights.items; sets = self.new.sets.items } }
     {
-        file::read(
-            file,
-            self.weights.as_mut_slice(),
-            self.sets.as_mut_slice(),
-            Spare {
-                candidates: self.candidates.as_slice(),
-                nodes: self.nodes.as_slice(),
-                merges: self.merges.as_slice(),
-                potentials: self.potentials.as_slice(),
-            },
-        )
+        let spare = Spare {
+            candidates: &self.candidates,
+            nodes: &self.nodes,
+            merges: &self.merges,
+            potentials: &self.potentials,
+        };
+        file::read(file, &mut self.weights, &mut self.sets, spare)
     }
 }

@@ -14,7 +14,6 @@ fn memory_for_forty_words(rt: HostRuntime) -> Result<(), Fail> {
     assert_eq!(rt; memory.search_barring(40, &[], 1, &mut [0; 40])?, None);
     let mut ranking = ranking::begin(sheet);
     assert!(rt; memory.take(&mut ranking, &mut [0; 40]).is_err());
-    memory.run(40, &[], &mut [])?;
     assert_eq!(rt; memory.read(&[1, 0, 2, 1, 40])?.words(), 40);
     Ok(())
 }
@@ -25,6 +24,6 @@ fn known_draws(rt: HostRuntime) {
     let mut random = Random { seed: 1 };
     assert_eq!(rt; random.draw(), 908_834_774);
     assert_eq!(rt; random.below(5), 3);
-    assert!(rt; random.score() == Score::new(-659_500));
+    assert_eq!(rt; random.score(), Score::new(-659_500));
     assert_eq!(rt; random.below(0), 0);
 }

@@ -11,7 +11,8 @@ ghost use Rattle.std.specs.Prelude.{◌≡◌, [], ◌∷◌, ◌++◌, IfOk, ve
 use desk::Memory;
 use ranking::Taken;
 use refusal::Refusal;
-use run::{Answer, Call, Turn};
+use run::{Answer, Call, Turn, run};
+use search::Working;
 use std::alloc::{AllocError, Global};
 use std::io;
 use std::io::{BufRead, BufReader};
@@ -219,6 +220,35 @@ fn print_lines(
     Ok(())
 }
 
+// Makes the calls on a sheet of so many words, and notes each with its answer.
+fn run_calls(
+    words: usize,
+    calls: &[Call<Score>],
+    memory: Memory<Score>,
+    turns: &mut [Turn<Score>],
+) -> Result<(), Refusal> {
+    let Memory {
+        mut weights,
+        mut sets,
+        mut candidates,
+        mut nodes,
+        mut merges,
+        mut potentials,
+    } = memory;
+    let working = Working {
+        nodes: &mut nodes,
+        merges: &mut merges,
+        potentials: &mut potentials,
+    };
+    let mut lent = run::Memory {
+        weights: &mut weights,
+        sets: &mut sets,
+        candidates: &mut candidates,
+        working,
+    };
+    run(words, calls, &mut lent, turns)
+}
+
 // Runs the calls after an `open`, and prints them.
 fn run_lines(rt: &HostRuntime, words: usize, lines: &[Line]) -> io::Result<()> {
     let calls = calls_in(rt.alloc(), lines)?;
@@ -227,8 +257,8 @@ fn run_lines(rt: &HostRuntime, words: usize, lines: &[Line]) -> io::Result<()> {
         answer: Answer::Misplaced,
     };
     let mut turns = vec![in rt.alloc(); blank; calls.len()]?;
-    let mut memory = Memory::new(rt.alloc())?;
-    match memory.run(words, calls.as_slice(), turns.as_mut_slice()) {
+    let memory = Memory::new(rt.alloc())?;
+    match run_calls(words, calls.as_slice(), memory, turns.as_mut_slice()) {
         Ok(()) => {
             println!(rt; "open {words}: done")?;
             print_lines(rt, words, lines, turns.as_slice())
