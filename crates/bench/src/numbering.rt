@@ -11,7 +11,6 @@ pub fn lists(words: u8) -> usize
 }
 
 // The list of heads with this number: its digits, to a base of one more than the words.
-#[tactic(auto, using(crate::proofs::Digits::rest_next))]
 pub fn list(number: usize, words: u8) -> [u8; 5]
     ensures { (place : ℕ) → place < 5 → slice_index result place ≡ digit (words + 1) place number }
 {

@@ -15,6 +15,7 @@ fn memory_for_forty_words(rt: HostRuntime) -> Result<(), Fail> {
     let mut ranking = ranking::begin(sheet);
     assert!(rt; memory.take(&mut ranking, &mut [0; 40]).is_err());
     assert_eq!(rt; memory.read(&[1, 0, 2, 1, 40])?.words(), 40);
+    memory.run(40, &[], &mut [])?;
     Ok(())
 }
 

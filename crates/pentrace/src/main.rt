@@ -11,8 +11,7 @@ ghost use Rattle.std.specs.Prelude.{◌≡◌, [], ◌∷◌, ◌++◌, IfOk, ve
 use desk::Memory;
 use ranking::Taken;
 use refusal::Refusal;
-use run::{Answer, Call, Turn, run};
-use search::Working;
+use run::{Answer, Call, Turn};
 use std::alloc::{AllocError, Global};
 use std::io;
 use std::io::{BufRead, BufReader};
@@ -220,35 +219,6 @@ fn print_lines(
     Ok(())
 }
 
-// Makes the calls on a sheet of so many words, and notes each with its answer.
-fn run_calls(
-    words: usize,
-    calls: &[Call<Score>],
-    memory: Memory<Score>,
-    turns: &mut [Turn<Score>],
-) -> Result<(), Refusal> {
-    let Memory {
-        mut weights,
-        mut sets,
-        mut candidates,
-        mut nodes,
-        mut merges,
-        mut potentials,
-    } = memory;
-    let working = Working {
-        nodes: &mut nodes,
-        merges: &mut merges,
-        potentials: &mut potentials,
-    };
-    let mut lent = run::Memory {
-        weights: &mut weights,
-        sets: &mut sets,
-        candidates: &mut candidates,
-        working,
-    };
-    run(words, calls, &mut lent, turns)
-}
-
 // Runs the calls after an `open`, and prints them.
 fn run_lines(rt: &HostRuntime, words: usize, lines: &[Line]) -> io::Result<()> {
     let calls = calls_in(rt.alloc(), lines)?;
@@ -258,7 +228,7 @@ fn run_lines(rt: &HostRuntime, words: usize, lines: &[Line]) -> io::Result<()> {
     };
     let mut turns = vec![in rt.alloc(); blank; calls.len()]?;
     let memory = Memory::new(rt.alloc())?;
-    match run_calls(words, calls.as_slice(), memory, turns.as_mut_slice()) {
+    match memory.run(words, calls.as_slice(), turns.as_mut_slice()) {
         Ok(()) => {
             println!(rt; "open {words}: done")?;
             print_lines(rt, words, lines, turns.as_slice())
