@@ -1,10 +1,10 @@
-// What tests of rankings work with: memory for forty words, a plain record of what stands on a sheet, and random numbers.
+// What tests work with: a plain record of what stands on a sheet, every list of up to five heads, and texts of weights.
 #![tactic(auto)]
 
-mod memory;
-mod numbers;
+mod numbering;
 mod plain;
+mod texts;
 
-pub use memory::{Memory, fill};
-pub use numbers::random;
+pub use numbering::{list, lists};
 pub use plain::Plain;
+pub use texts::shows;

@@ -1,8 +1,8 @@
 // What stands on a sheet, kept apart from the sheet's own memory.
-ghost use Rattle.std.specs.Prelude.{◌<◌};
+ghost use Rattle.std.specs.Prelude.{◌≡◌, ◌<◌, vec_len};
 
-use crate::memory::fill;
 use refusal::Refusal;
+use std::alloc::{AllocError, Global};
 use tree::check_heads;
 use weight::Kind;
 
@@ -10,8 +10,8 @@ use weight::Kind;
 #[derive(Drop)]
 pub struct Plain<K> {
     pub words: usize,
-    stands: [bool; 1681],
-    weights: [K; 1681],
+    arcs: Vec<Option<K>>,
+    ghost places: { vec_len arcs ≡ 1681 },
 }
 
 // The place of an arc.
@@ -23,59 +23,48 @@ fn place(head: usize, dependent: usize) -> usize
 
 impl<K: Kind + Copy> Plain<K> {
     // No words and no arcs.
-    pub fn new() -> Plain<K> {
-        Plain {
+    pub fn new(heap: Global) -> Result<Plain<K>, AllocError> {
+        Ok(Plain {
             words: 0,
-            stands: [false; 1681],
-            weights: [K::nothing(); 1681],
-        }
+            arcs: vec![in heap; None; 1681]?,
+        })
     }
 
     // A line of so many words with every arc absent.
     pub fn reset(&mut self, words: usize) {
         self.words = words;
-        fill(&mut self.stands, false);
+        self.arcs.fill(None);
     }
 
-    // Which refusal the ends of an arc call for.
-    fn fault(&self, head: usize, dependent: usize) -> Option<Refusal> {
+    // Whether an arc of the line has these ends, or which refusal they call for.
+    fn check(&self, head: usize, dependent: usize) -> Result<(), Refusal> {
         if dependent < 1 || self.words < dependent {
-            return Some(Refusal::NoDependent);
+            return Err(Refusal::NoDependent);
         }
         if self.words < head {
-            return Some(Refusal::HeadAbove);
+            return Err(Refusal::HeadAbove);
         }
         if head == dependent {
-            return Some(Refusal::SelfLoop);
+            return Err(Refusal::SelfLoop);
         }
-        None
+        Ok(())
     }
 
-    // Puts an arc; which refusal the sheet should tell.
-    pub fn put(&mut self, head: usize, dependent: usize, weight: K) -> Option<Refusal> {
-        let fault = self.fault(head, dependent);
-        if fault.is_none() {
-            if !weight.entry() {
-                return Some(Refusal::NoEntry);
-            }
-            let at = place(head, dependent);
-            self.stands[at] = true;
-            self.weights[at] = weight;
+    // Puts an arc, or tells which refusal the sheet should tell.
+    pub fn put(&mut self, head: usize, dependent: usize, weight: K) -> Result<(), Refusal> {
+        self.check(head, dependent)?;
+        if !weight.entry() {
+            return Err(Refusal::NoEntry);
         }
-        fault
+        self.arcs[place(head, dependent)] = Some(weight);
+        Ok(())
     }
 
-    // Strikes an arc; which refusal the sheet should tell.
-    pub fn strike(&mut self, head: usize, dependent: usize) -> Option<Refusal> {
-        let fault = self.fault(head, dependent);
-        if fault.is_none() {
-            let at = place(head, dependent);
-            if !self.stands[at] {
-                return Some(Refusal::AbsentArc);
-            }
-            self.stands[at] = false;
-        }
-        fault
+    // Strikes an arc, or tells which refusal the sheet should tell.
+    pub fn strike(&mut self, head: usize, dependent: usize) -> Result<(), Refusal> {
+        self.check(head, dependent)?;
+        let arc = self.arcs[place(head, dependent)].take();
+        arc.map(drop).ok_or(Refusal::AbsentArc)
     }
 
     // The weight of a list of heads, if it is a single-root tree of the sheet.
@@ -83,15 +72,10 @@ impl<K: Kind + Copy> Plain<K> {
         if heads.len() != self.words || check_heads(heads).is_err() {
             return None;
         }
-        let mut sum = K::nothing();
-        for (i, head) in heads.iter().enumerate() {
-            let at = place(*head as usize, i.wrapping_add(1));
-            if !self.stands[at] {
-                return None;
-            }
-            let next = self.weights[at];
-            sum = sum.sum(&next);
-        }
-        Some(sum)
+        let mut arcs = (1..).zip(heads);
+        arcs.try_fold(K::nothing(), |sum, (dependent, head)| {
+            let weight = self.arcs[place(usize::from(*head), dependent)]?;
+            Some(sum.sum(&weight))
+        })
     }
 }

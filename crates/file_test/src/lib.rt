@@ -1,6 +1,7 @@
-// Damaged files: what the readers tell is what a plain reading of the bytes tells.
+// Damaged files: what the reader tells is what a plain reading of the bytes tells.
 #![tactic(auto)]
 
 #[cfg(test)]
 mod damaged;
+#[cfg(test)]
 mod plain;

@@ -1,109 +1,99 @@
-// The first fault of a file, and the arcs that its records name, read byte by byte.
+// The first fault of a file, and the arcs that its records name, read from the bytes alone. This reading shares nothing with
+// the reader that it stands beside, so its kinds and faults are the numbers that stand in a file and in its refused line.
+
 // A byte of the file; 0 beyond its end.
-pub(crate) fn at(file: &[u8], place: usize) -> usize {
-    usize::from(file.get(place).copied().unwrap_or(0))
+fn at(file: &[u8], place: usize) -> u8 {
+    file.get(place).copied().unwrap_or(0)
 }
 
-// Four bytes, the greatest place first.
-pub(crate) fn four(file: &[u8], place: usize) -> usize {
-    let mut value: usize = 0;
-    for i in 0..4 {
-        value = value
-            .wrapping_mul(256)
-            .wrapping_add(at(file, place.wrapping_add(i)));
-    }
-    value
-}
-
-// The number of a file's kind.
-pub(crate) fn kind(file: &[u8]) -> usize {
+// The number of the file's kind.
+pub(crate) fn kind(file: &[u8]) -> u8 {
     at(file, 3)
 }
 
+// How many words the file's line has.
+pub(crate) fn words(file: &[u8]) -> usize {
+    usize::from(at(file, 4))
+}
+
 // How long a record is.
-pub(crate) fn width(file: &[u8]) -> usize {
+fn width(file: &[u8]) -> usize {
     if kind(file) == 3 { 7 } else { 6 }
 }
 
-// Whether the weight of the record at this place is an entry of its kind.
-pub(crate) fn entry(file: &[u8], place: usize) -> bool {
-    if kind(file) == 2 {
-        return four(file, place.wrapping_add(2)) <= 1_000_000;
+// Whether four bytes are a score that is an entry.
+fn score_entry(bytes: [u8; 4]) -> bool {
+    (-1_000_000..=1_000_000).contains(&i32::from_be_bytes(bytes))
+}
+
+// Whether the bytes of a weight are an entry of the kind with this number.
+fn entry(kind: u8, weight: &[u8]) -> bool {
+    match (kind, weight) {
+        (2, [a, b, c, d]) => u32::from_be_bytes([*a, *b, *c, *d]) <= 1_000_000,
+        (3, [mark, a, b, c, d]) => *mark <= 9 && score_entry([*a, *b, *c, *d]),
+        (_, [a, b, c, d]) => score_entry([*a, *b, *c, *d]),
+        _ => false,
     }
-    let behind = if kind(file) == 3 { 3 } else { 2 };
-    let score = four(file, place.wrapping_add(behind));
-    let marked = kind(file) != 3 || at(file, place.wrapping_add(2)) <= 9;
-    marked && (score <= 1_000_000 || score >= 4_293_967_296)
 }
 
 // The fault of the record at this place, by its number and place.
-pub(crate) fn record_fault(file: &[u8], place: usize) -> Option<(u8, usize)> {
+fn check_record(file: &[u8], record: &[u8], place: usize) -> Result<(), (u8, usize)> {
+    let [head, dependent, weight @ ..] = record else {
+        return Err((12, 1));
+    };
     let words = at(file, 4);
-    let head = at(file, place);
-    let dependent = at(file, place.wrapping_add(1));
-    if dependent < 1 || dependent > words {
-        return Some((3, place.wrapping_add(1)));
+    if *dependent < 1 || words < *dependent {
+        return Err((3, place + 1));
     }
-    if head > words {
-        return Some((4, place));
+    if words < *head {
+        return Err((4, place));
     }
     if head == dependent {
-        return Some((5, place.wrapping_add(1)));
+        return Err((5, place + 1));
     }
-    if !entry(file, place) {
-        return Some((6, place.wrapping_add(2)));
+    if !entry(kind(file), weight) {
+        return Err((6, place + 2));
     }
-    None
+    Ok(())
 }
 
 // The fault of the bytes before the records.
-pub(crate) fn frame_fault(file: &[u8]) -> Option<(u8, usize)> {
-    let long = file.len();
-    if long < 1 || at(file, 0) != 1 {
-        return Some((11, 0));
+fn check_frame(file: &[u8]) -> Result<(), (u8, usize)> {
+    if at(file, 0) != 1 {
+        return Err((11, 0));
     }
-    let told = at(file, 1).wrapping_mul(256).wrapping_add(at(file, 2));
-    if long < 3 || told < 2 || told > 11_202 || told != long.wrapping_sub(3) {
-        return Some((12, 1));
+    let [_, high, low, rest @ ..] = file else {
+        return Err((12, 1));
+    };
+    let told = usize::from(u16::from_be_bytes([*high, *low]));
+    if told < 2 || told > 11_202 || told != rest.len() {
+        return Err((12, 1));
     }
-    if kind(file) < 1 || kind(file) > 3 {
-        return Some((13, 3));
+    if !(1..=3).contains(&kind(file)) {
+        return Err((13, 3));
     }
-    if at(file, 4) < 1 || at(file, 4) > 40 {
-        return Some((1, 4));
+    if !(1..=40).contains(&words(file)) {
+        return Err((1, 4));
     }
-    if long.wrapping_sub(5).checked_rem(width(file)) != Some(0) {
-        return Some((12, 1));
+    if (file.len() - 5) % width(file) != 0 {
+        return Err((12, 1));
     }
-    None
+    Ok(())
 }
 
-// The first fault of a file, read byte by byte.
-pub(crate) fn plain(file: &[u8]) -> Option<(u8, usize)> {
-    if let Some(fault) = frame_fault(file) {
-        return Some(fault);
+// The first fault of a file.
+pub(crate) fn check(file: &[u8]) -> Result<(), (u8, usize)> {
+    check_frame(file)?;
+    let width = width(file);
+    let records = file.get(5..).unwrap_or(&[]).chunks(width);
+    for (place, record) in (5..).step_by(width).zip(records) {
+        check_record(file, record, place)?;
     }
-    let mut place = 5;
-    for _ in 0..file.len() {
-        if place >= file.len() {
-            return None;
-        }
-        if let Some(fault) = record_fault(file, place) {
-            return Some(fault);
-        }
-        place = place.wrapping_add(width(file));
-    }
-    None
+    Ok(())
 }
 
-// Whether an arc stands by a plain reading: some record names it.
+// Whether some record names the arc.
 pub(crate) fn named(file: &[u8], head: usize, dependent: usize) -> bool {
-    let mut place = 5;
-    for _ in 0..file.len() {
-        if at(file, place) == head && at(file, place.wrapping_add(1)) == dependent {
-            return place < file.len();
-        }
-        place = place.wrapping_add(width(file));
-    }
-    false
+    let mut records = file.get(5..).unwrap_or(&[]).chunks(width(file));
+    records.any(|record| usize::from(at(record, 0)) == head && usize::from(at(record, 1)) == dependent)
 }

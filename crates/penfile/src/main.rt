@@ -2,13 +2,13 @@
 // stand in the end; or the refusal with its number and byte place.
 #![tactic(auto)]
 
-use file::{FileFault, FileKind, kind_of, read_costs, read_marks, read_scores};
+use desk::Memory;
+use file::{FileFault, FileKind, Recorded, kind_of};
 use lines::refused_line;
-use search::Node;
-use sheet::Candidate;
+use sheet::Sheet;
 use std::io;
 use std::io::Read;
-use weight::{Cost, Kind, Mark, Root, Score};
+use weight::{Cost, Kind, Mark, Score};
 use word_set::holds;
 
 // Prints the line of a refused file.
@@ -19,14 +19,12 @@ fn print_fault(rt: &HostRuntime, fault: FileFault) -> io::Result<()> {
     print!(rt; "{text}")
 }
 
-// Prints the arc that each record names.
+// Prints the arc that each record of so many bytes names.
 fn print_records(rt: &HostRuntime, records: &[u8], width: usize) -> io::Result<()> {
-    let mut number: usize = 0;
-    for record in records.chunks(width.max(1)) {
+    for (number, record) in records.chunks(width.max(1)).enumerate() {
         if let [head, dependent, ..] = record {
             println!(rt; "record {number}: arc {head} to {dependent}")?;
         }
-        number = number.wrapping_add(1);
     }
     Ok(())
 }
@@ -44,105 +42,36 @@ fn print_arc<K: Kind>(
     println!(rt; "arc {head} to {dependent} stands: {text}")
 }
 
-// Prints the arcs into a word that stand, and returns how many they are.
-fn print_into<K: Kind>(
+// Prints all arcs that stand: the weights of a word's arcs lie together, one for each head.
+fn print_arcs<K: Kind + Copy>(
     rt: &HostRuntime,
-    dependent: usize,
-    set: u64,
-    weights: &[K],
-) -> io::Result<usize> {
-    let mut standing: usize = 0;
-    for (head, weight) in weights.iter().enumerate() {
-        if holds(set, head) {
-            print_arc(rt, head, dependent, weight)?;
-            standing = standing.wrapping_add(1);
+    sheet: &Sheet<K>,
+    memory: &Memory<K>,
+) -> io::Result<()> {
+    let mut arcs = Vec::new(rt.alloc());
+    let rows = memory.weights.chunks(sheet.words() + 1);
+    for (dependent, (row, set)) in (1..=40).zip(rows.zip(memory.sets.iter())) {
+        for (head, weight) in row.iter().enumerate() {
+            if holds(*set, head) {
+                arcs.push((head, dependent, *weight))?;
+            }
         }
     }
-    Ok(standing)
-}
-
-// Prints all arcs that stand: the weights of a word's arcs lie together, one for each head.
-fn print_arcs<K: Kind>(
-    rt: &HostRuntime,
-    words: usize,
-    weights: &[K],
-    sets: &[u64],
-) -> io::Result<()> {
-    let mut standing: usize = 0;
-    let row = words.wrapping_add(1).max(1);
-    for (i, (row, set)) in weights.chunks(row).zip(sets.iter()).enumerate() {
-        let dependent = i.wrapping_add(1);
-        let more = print_into(rt, dependent, *set, row)?;
-        standing = standing.wrapping_add(more);
+    for (head, dependent, weight) in arcs.iter() {
+        print_arc(rt, *head, *dependent, weight)?;
     }
+    let standing = arcs.len();
     println!(rt; "arcs: {standing}")
 }
 
-// Reads a file of scores.
-fn show_scores(rt: &HostRuntime, file: &[u8], words: usize) -> io::Result<()> {
-    let nothing = Score::new(0);
-    let mut weights = [nothing; 1640];
-    let mut sets = [0; 40];
-    let potentials: [Root<Score>; 41] = [<Root<_> as Kind>::nothing(); 41];
-    match read_scores(
-        file,
-        &mut weights,
-        &mut sets,
-        &[Candidate::new(nothing); 51],
-        &[Node::new(nothing); 41],
-        &[Node::new(nothing); 39],
-        &potentials,
-    ) {
+// Reads a file of a kind, and prints its records and the arcs that stand in the end.
+fn show<K: Recorded + Copy>(rt: &HostRuntime, file: &[u8]) -> io::Result<()> {
+    let mut memory = Memory::<K>::new(rt.alloc())?;
+    match memory.read(file) {
         Err(fault) => print_fault(rt, fault),
-        Ok(_) => {
-            print_records(rt, file.get(5..).unwrap_or(&[]), 6)?;
-            print_arcs(rt, words, &weights, &sets)
-        }
-    }
-}
-
-// Reads a file of costs.
-fn show_costs(rt: &HostRuntime, file: &[u8], words: usize) -> io::Result<()> {
-    let nothing = Cost::new(0);
-    let mut weights = [nothing; 1640];
-    let mut sets = [0; 40];
-    let potentials: [Root<Cost>; 41] = [<Root<_> as Kind>::nothing(); 41];
-    match read_costs(
-        file,
-        &mut weights,
-        &mut sets,
-        &[Candidate::new(nothing); 51],
-        &[Node::new(nothing); 41],
-        &[Node::new(nothing); 39],
-        &potentials,
-    ) {
-        Err(fault) => print_fault(rt, fault),
-        Ok(_) => {
-            print_records(rt, file.get(5..).unwrap_or(&[]), 6)?;
-            print_arcs(rt, words, &weights, &sets)
-        }
-    }
-}
-
-// Reads a file of marks over scores.
-fn show_marks(rt: &HostRuntime, file: &[u8], words: usize) -> io::Result<()> {
-    let nothing = Mark::new(0, Score::new(0));
-    let mut weights = [nothing; 1640];
-    let mut sets = [0; 40];
-    let potentials: [Root<Mark<Score>>; 41] = [<Root<_> as Kind>::nothing(); 41];
-    match read_marks(
-        file,
-        &mut weights,
-        &mut sets,
-        &[Candidate::new(nothing); 51],
-        &[Node::new(nothing); 41],
-        &[Node::new(nothing); 39],
-        &potentials,
-    ) {
-        Err(fault) => print_fault(rt, fault),
-        Ok(_) => {
-            print_records(rt, file.get(5..).unwrap_or(&[]), 7)?;
-            print_arcs(rt, words, &weights, &sets)
+        Ok(sheet) => {
+            print_records(rt, file.get(5..).unwrap_or(&[]), K::bytes() + 2)?;
+            print_arcs(rt, &sheet, &memory)
         }
     }
 }
@@ -155,22 +84,12 @@ fn main(rt: HostRuntime) -> io::Result<()> {
         Ok(kind) => kind,
         Err(fault) => return print_fault(&rt, fault),
     };
-    let words = usize::from(file.get(4).copied().unwrap_or(0));
+    println!(rt; "kind: {kind}")?;
+    let words = file.get(4).copied().unwrap_or(0);
+    println!(rt; "words: {words}")?;
     match kind {
-        FileKind::Score => {
-            println!(rt; "kind: score")?;
-            println!(rt; "words: {words}")?;
-            show_scores(&rt, file, words)
-        }
-        FileKind::Cost => {
-            println!(rt; "kind: cost")?;
-            println!(rt; "words: {words}")?;
-            show_costs(&rt, file, words)
-        }
-        FileKind::Mark => {
-            println!(rt; "kind: mark over score")?;
-            println!(rt; "words: {words}")?;
-            show_marks(&rt, file, words)
-        }
+        FileKind::Score => show::<Score>(&rt, file),
+        FileKind::Cost => show::<Cost>(&rt, file),
+        FileKind::Mark => show::<Mark<Score>>(&rt, file),
     }
 }

@@ -4,19 +4,18 @@
 #![tactic(auto)]
 
 ghost use Rattle.pentrace.specs.Orders.{Said};
-ghost use Rattle.pentrace.specs.Script.{calls_in};
+ghost use Rattle.pentrace.specs.Script.{call_of, calls_in};
 ghost use Rattle.pentrace.specs.Texts.{CallText, ending_text, refusal_text, which_ranking};
 ghost use Rattle.std.specs.Prelude.{◌≡◌, [], ◌∷◌, ◌++◌, IfOk, vec_len, string_bytes, OnOk};
 
+use desk::Memory;
 use ranking::Taken;
 use refusal::Refusal;
-use run::{Answer, Call, Turn, run};
-use search::Node;
-use sheet::Candidate;
+use run::{Answer, Call, Turn};
 use std::alloc::{AllocError, Global};
 use std::io;
 use std::io::{BufRead, BufReader};
-use weight::{Kind, Root, Score};
+use weight::{Kind, Score};
 
 // What a line of a script asks for.
 enum Order {
@@ -82,39 +81,23 @@ fn read_order(line: &[u8]) -> Option<Order> {
     order_of(name, first, second, third)
 }
 
-// Keeps the call of a line, if it is one.
-fn keep_call(calls: &mut Vec<Call<Score>>, line: &Line) -> Result<(), AllocError>
-    ensures { OnOk result (calls.new.items ≡ calls.old.items ++ calls_in (line.now ∷ [])) }
-{
-    if let Line::Call(call) = line {
-        calls.push(*call)?;
+impl Line {
+    // The call of the line, if it is one.
+    fn call(&self) -> Option<Call<Score>>
+        ensures { result ≡ call_of self.now }
+    {
+        match self {
+            Line::Call(call) => Some(*call),
+            Line::NoCall(_) => None,
+        }
     }
-    Ok(())
 }
 
 // The calls among the lines, in their order.
 fn calls_in(heap: Global, lines: &[Line]) -> Result<Vec<Call<Score>>, AllocError>
     ensures { IfOk result (λ v. v.items ≡ calls_in lines.now) }
 {
-    let mut calls = Vec::new(heap);
-    for line in lines {
-        keep_call(&mut calls, line)?;
-    }
-    Ok(calls)
-}
-
-// So many turns, for a run to note.
-fn blank_turns(heap: Global, count: usize) -> Result<Vec<Turn<Score>>, AllocError>
-    ensures { IfOk result (λ v. vec_len v ≡ count) }
-{
-    let mut turns = Vec::new(heap);
-    while turns.len() < count {
-        turns.push(Turn {
-            call: Call::Begin,
-            answer: Answer::Misplaced,
-        })?;
-    }
-    Ok(turns)
+    lines.iter().filter_map(Line::call).collect(heap)
 }
 
 // A weight in decimal.
@@ -175,9 +158,8 @@ fn ending(why: Refusal) -> &'static str
 fn refusal_text(heap: Global, why: Refusal) -> Result<String, AllocError>
     ensures { IfOk result (λ s. string_bytes s ≡ refusal_text why) }
 {
-    let number = why.number();
     let end = ending(why);
-    format!(in heap; "refused {number}{end}")
+    format!(in heap; "{why}{end}")
 }
 
 // Whether a ranking stands where a call is misplaced: none where the call wants one.
@@ -227,14 +209,11 @@ fn print_lines(
     lines: &[Line],
     turns: &[Turn<Score>],
 ) -> io::Result<()> {
-    let mut made: usize = 0;
+    let mut turns = turns.iter();
     for line in lines {
         match line {
             Line::NoCall(number) => println!(rt; "line {number}: no call")?,
-            Line::Call(call) => {
-                print_call(rt, words, call, turns.get(made))?;
-                made = made.wrapping_add(1);
-            }
+            Line::Call(call) => print_call(rt, words, call, turns.next())?,
         }
     }
     Ok(())
@@ -243,20 +222,13 @@ fn print_lines(
 // Runs the calls after an `open`, and prints them.
 fn run_lines(rt: &HostRuntime, words: usize, lines: &[Line]) -> io::Result<()> {
     let calls = calls_in(rt.alloc(), lines)?;
-    let mut turns = blank_turns(rt.alloc(), calls.len())?;
-    let nothing = Score::new(0);
-    let potentials: [Root<Score>; 41] = [<Root<_> as Kind>::nothing(); 41];
-    match run(
-        words,
-        calls.as_slice(),
-        &mut [nothing; 1640],
-        &mut [0; 40],
-        &mut [Candidate::new(nothing); 51],
-        &mut [Node::new(nothing); 41],
-        &mut [Node::new(nothing); 39],
-        &mut { potentials },
-        turns.as_mut_slice(),
-    ) {
+    let blank = Turn {
+        call: Call::Begin,
+        answer: Answer::Misplaced,
+    };
+    let mut turns = vec![in rt.alloc(); blank; calls.len()]?;
+    let memory = Memory::new(rt.alloc())?;
+    match memory.run(words, calls.as_slice(), turns.as_mut_slice()) {
         Ok(()) => {
             println!(rt; "open {words}: done")?;
             print_lines(rt, words, lines, turns.as_slice())
@@ -282,10 +254,9 @@ fn main(rt: HostRuntime) -> io::Result<()> {
         words: None,
         lines: Vec::new(rt.alloc()),
     };
-    let mut number: usize = 0;
-    for line in BufReader::new(rt.alloc(), rt.stdin())?.split(rt.alloc(), b'\n') {
+    let lines = BufReader::new(rt.alloc(), rt.stdin())?.split(rt.alloc(), b'\n');
+    for (number, line) in (1..).zip(lines) {
         let line = line?;
-        number = number.wrapping_add(1);
         match read_order(line.as_slice()) {
             Some(Order::Open(words)) => {
                 run_part(&rt, &part)?;

@@ -2,45 +2,31 @@
 // A line is the number of words, then head, dependent and score of each arc.
 #![tactic(auto)]
 
+use desk::Memory;
 use reading::read_spaced;
-use refusal::Refusal;
-use search::{Node, best_tree};
-use sheet::{Candidate, Sheet, open, put};
+use sheet::Sheet;
 use std::io;
 use std::io::{BufRead, BufReader};
 use tree::write_brackets;
-use weight::{Kind, Root, Score};
-
-// Prints the number of a refusal.
-fn print_refusal(rt: &HostRuntime, refusal: Refusal) -> io::Result<()> {
-    let number = refusal.number();
-    println!(rt; "refused {number}")
-}
+use weight::{Kind, Score};
 
 // Puts the arcs of a line on the sheet, and prints each.
 fn put_all(
     rt: &HostRuntime,
     sheet: &Sheet<Score>,
     arcs: &[u8],
-    weights: &mut [Score],
-    sets: &mut [u64],
+    memory: &mut Memory<Score>,
 ) -> io::Result<()> {
     for arc in arcs.chunks(3) {
-        if let [head, dependent, score] = arc {
-            println!(rt; "arc {head} to {dependent}: {score}")?;
-            let weight = Score::new(i64::from(*score));
-            if let Err(refusal) = put(
-                sheet,
-                weights,
-                sets,
-                *head as usize,
-                *dependent as usize,
-                weight,
-            ) {
-                print_refusal(rt, refusal)?;
-            }
-        } else {
+        let [head, dependent, score] = arc else {
             println!(rt; "no whole arc at the end")?;
+            continue;
+        };
+        println!(rt; "arc {head} to {dependent}: {score}")?;
+        let weight = Score::new(i64::from(*score));
+        let (head, dependent) = (usize::from(*head), usize::from(*dependent));
+        if let Err(refusal) = memory.put(sheet, head, dependent, weight) {
+            println!(rt; "{refusal}")?;
         }
     }
     Ok(())
@@ -51,8 +37,7 @@ fn print_tree(rt: &HostRuntime, weight: Score, heads: &[u8]) -> io::Result<()> {
     let mut space = [0; 160];
     let long = weight.show(&mut space).unwrap_or(0);
     print_text(rt, "weight", space.get(..long).unwrap_or(&[]))?;
-    for (i, head) in heads.iter().enumerate() {
-        let word = i.wrapping_add(1);
+    for (word, head) in (1..=40).zip(heads) {
         println!(rt; "head of {word}: {head}")?;
     }
     let long = write_brackets(heads, &mut space).unwrap_or(0);
@@ -66,53 +51,35 @@ fn print_text(rt: &HostRuntime, name: &str, bytes: &[u8]) -> io::Result<()> {
 }
 
 // Opens a sheet for one line, puts its arcs, and searches.
-fn search_line(rt: &HostRuntime, words: usize, arcs: &[u8]) -> io::Result<()> {
-    let nothing = Score::new(0);
-    let mut weights = [nothing; 1640];
-    let mut sets = [0; 40];
-    let candidates = [Candidate::new(nothing); 51];
-    let mut nodes = [Node::new(nothing); 41];
-    let mut merges = [Node::new(nothing); 39];
-    let mut potentials: [Root<Score>; 41] = [<Root<_> as Kind>::nothing(); 41];
+fn search_line(
+    rt: &HostRuntime,
+    words: usize,
+    arcs: &[u8],
+    memory: &mut Memory<Score>,
+) -> io::Result<()> {
     println!(rt; "words: {words}")?;
-    let sheet = match open(
-        words,
-        &weights,
-        &mut sets,
-        &candidates,
-        &nodes,
-        &merges,
-        &potentials,
-    ) {
+    let sheet = match memory.open(words) {
         Ok(sheet) => sheet,
-        Err(refusal) => return print_refusal(rt, refusal),
+        Err(refusal) => return println!(rt; "{refusal}"),
     };
-    put_all(rt, &sheet, arcs, &mut weights, &mut sets)?;
+    put_all(rt, &sheet, arcs, memory)?;
     let mut heads = [0; 40];
-    match best_tree(
-        words,
-        &sets,
-        &weights,
-        &[],
-        &mut nodes,
-        &mut merges,
-        &mut potentials,
-        &mut heads,
-    ) {
-        Err(refusal) => print_refusal(rt, refusal),
+    match memory.search(words, &[], &mut heads) {
+        Err(refusal) => println!(rt; "{refusal}"),
         Ok(None) => println!(rt; "no tree"),
         Ok(Some(weight)) => print_tree(rt, weight, heads.get(..words).unwrap_or(&[])),
     }
 }
 
 fn main(rt: HostRuntime) -> io::Result<()> {
+    let mut memory = Memory::new(rt.alloc())?;
     for line in BufReader::new(rt.alloc(), rt.stdin())?.split(rt.alloc(), b'\n') {
         let line = line?;
         match read_spaced(rt.alloc(), line.as_slice())? {
             None => println!(rt; "no list of numbers")?,
             Some(numbers) => {
                 if let [words, arcs @ ..] = numbers.as_slice() {
-                    search_line(&rt, *words as usize, arcs)?;
+                    search_line(&rt, usize::from(*words), arcs, &mut memory)?;
                 }
             }
         }

@@ -5,6 +5,5 @@
 mod known;
 #[cfg(test)]
 mod long;
-mod noted;
 #[cfg(test)]
 mod runs;

@@ -1,144 +1,138 @@
 // Forty words with every arc: fifty trees, the same whatever the working space held.
-use crate::noted::{all_differ, changed, has};
-use bench::{Memory, Plain, random};
+use bench::Plain;
+use desk::{Memory, Random};
 use ranking::Ranking;
 use refusal::Refusal;
 use sheet::Sheet;
+use std::alloc::Global;
+use std::process::Abort;
+use std::test::Fail;
 use weight::{Kind, Score};
 
-// Puts every arc of forty words, with scores drawn from many or from three; whether just the loops are refused.
+// A tree that was handed out: its heads and its weight.
+#[derive(Clone, Copy)]
+struct Tree {
+    heads: [u8; 40],
+    weight: Score,
+}
+
+// Puts every arc of forty words, with scores drawn from many or from three; just the loops are refused.
 fn put_all(
+    rt: &impl Abort,
     memory: &mut Memory<Score>,
     plain: &mut Plain<Score>,
     sheet: &Sheet<Score>,
     many: bool,
-    seed: &mut u64,
-) -> bool {
+    random: &mut Random,
+) {
     for dependent in 1..41 {
         for head in 0..41 {
-            let coarse = if many { random(seed, 200) } else { 100 };
-            let fine = random(seed, if many { 200 } else { 3 });
+            let coarse = if many { random.below(200) } else { 100 };
+            let fine = random.below(if many { 200 } else { 3 });
             let weight = Score::new(i64::from(coarse) * 5000 + i64::from(fine) * 25 - 500_000);
             let told = memory.put(sheet, head, dependent, weight);
-            if told.err() != plain.put(head, dependent, weight) {
-                return false;
-            }
+            assert_eq!(rt; told, plain.put(head, dependent, weight));
         }
     }
-    true
 }
 
-// Makes fifty takes, and notes what they write and tell; whether they have the right counts and the next one is refused.
+// Makes fifty takes, and notes their trees; they have the right counts, and the next take is refused.
 // Where it is to litter, the working space is filled with something else before each take.
 fn take_fifty(
+    rt: &impl Abort,
+    heap: Global,
     memory: &mut Memory<Score>,
     ranking: &mut Ranking<Score>,
     litter: bool,
-    heads: &mut [[u8; 40]],
-    weights: &mut [Score],
-) -> bool {
-    let mut seed = 3;
-    for i in 0..heads.len() {
+) -> Result<Vec<Tree>, Fail> {
+    let mut random = Random { seed: 3 };
+    let mut trees = Vec::new(heap);
+    for count in 1..51 {
         if litter {
-            memory.litter(Score::new(i64::from(random(&mut seed, 200)) * 1000 - 100_000));
+            memory.litter(Score::new(i64::from(random.below(200)) * 1000 - 100_000));
         }
-        let mut tree = [0; 40];
-        let Ok(taken) = memory.take(ranking, &mut tree) else {
-            return false;
-        };
-        if taken.count != i + 1 || weights.len() <= i {
-            return false;
-        }
-        heads[i] = tree;
-        weights[i] = taken.weight;
+        let mut heads = [0; 40];
+        let taken = memory.take(ranking, &mut heads)?;
+        assert_eq!(rt; taken.count, count);
+        trees.push(Tree {
+            heads,
+            weight: taken.weight,
+        })?;
     }
-    memory.take(ranking, &mut [0; 40]).err() == Some(Refusal::Fifty)
+    let more = memory.take(ranking, &mut [0; 40]);
+    assert_eq!(rt; more.err(), Some(Refusal::Fifty));
+    Ok(trees)
 }
 
 // Whether no weight outweighs the one before it.
-fn never_rise(weights: &[Score]) -> bool {
-    for i in 1..weights.len() {
-        if weights[i].compare(&weights[i - 1]).is_gt() {
-            return false;
-        }
-    }
-    true
+fn never_rise(trees: &[Tree]) -> bool {
+    trees.windows(2).all(|pair| match pair {
+        [first, second] => second.weight.at_most(&first.weight),
+        _ => false,
+    })
+}
+
+// Whether no tree is there twice.
+fn all_differ(trees: &[Tree]) -> bool {
+    let mut places = trees.iter().enumerate();
+    places.all(|(place, tree)| !has(trees.get(..place).unwrap_or(&[]), &tree.heads))
+}
+
+// Whether one of the trees has these heads.
+fn has(trees: &[Tree], heads: &[u8; 40]) -> bool {
+    trees.iter().any(|tree| tree.heads == *heads)
 }
 
 // Whether the heads are trees of the sheet with these weights.
-fn weigh_so(plain: &Plain<Score>, heads: &[[u8; 40]], weights: &[Score]) -> bool {
-    for i in 0..heads.len() {
-        let Some(weight) = plain.weigh(&heads[i]) else {
-            return false;
-        };
-        if weights.len() <= i || weights[i].compare(&weight).is_ne() {
-            return false;
-        }
-    }
-    true
+fn weigh_so(plain: &Plain<Score>, trees: &[Tree]) -> bool {
+    trees.iter().all(|tree| plain.weigh(&tree.heads) == Some(tree.weight))
 }
 
 // Whether no tree outweighs this weight that has all heads but one of a noted tree, and is not noted.
-fn none_beside(plain: &Plain<Score>, heads: &[[u8; 40]], noted: &[u8; 40], last: &Score) -> bool {
-    for word in 0..40 {
-        for head in 0..41 {
-            let tree = changed(noted, word, head);
-            if let Some(weight) = plain.weigh(&tree) {
-                if weight.compare(last).is_gt() && !has(heads, &tree) {
-                    return false;
-                }
-            }
-        }
-    }
-    true
+fn none_beside(plain: &Plain<Score>, trees: &[Tree], noted: &Tree, last: &Score) -> bool {
+    (0..40).all(|word| {
+        (0..41).all(|head| {
+            let mut heads = noted.heads;
+            heads[word] = head;
+            let weight = plain.weigh(&heads);
+            weight.is_none_or(|weight| weight.at_most(last) || has(trees, &heads))
+        })
+    })
 }
 
 // Whether no tree that is like a noted one but for a head outweighs the last noted one, unless it is noted.
-fn none_left(plain: &Plain<Score>, heads: &[[u8; 40]], weights: &[Score]) -> bool {
-    let Some(last) = weights.last() else {
-        return false;
-    };
-    for i in 0..heads.len() {
-        if !none_beside(plain, heads, &heads[i], last) {
-            return false;
-        }
-    }
-    true
+fn none_left(plain: &Plain<Score>, trees: &[Tree]) -> bool {
+    let last = trees.last();
+    last.is_some_and(|last| {
+        trees.iter().all(|noted| none_beside(plain, trees, noted, &last.weight))
+    })
 }
 
-// Whether fifty takes go as they should, and alike in a working space that is littered.
-fn fifty(many: bool, mut seed: u64) -> bool {
-    let mut memory = Memory::new();
-    let mut plain = Plain::new();
+// Fifty takes go as they should, and alike in a working space that is littered.
+fn fifty(rt: &(impl Abort + AllocGlobal), many: bool, seed: u64) -> Result<(), Fail> {
+    let mut memory = Memory::new(rt.alloc())?;
+    let mut plain = Plain::new(rt.alloc())?;
     plain.reset(40);
-    let Ok(sheet) = memory.open(40) else {
-        return false;
-    };
-    if !put_all(&mut memory, &mut plain, &sheet, many, &mut seed) {
-        return false;
-    }
-    let mut heads = [[0; 40]; 50];
-    let mut weights = [Score::new(0); 50];
+    let sheet = memory.open(40)?;
+    put_all(rt, &mut memory, &mut plain, &sheet, many, &mut Random { seed });
     let mut ranking = ranking::begin(sheet);
-    if !take_fifty(&mut memory, &mut ranking, false, &mut heads, &mut weights) {
-        return false;
-    }
+    let trees = take_fifty(rt, rt.alloc(), &mut memory, &mut ranking, false)?;
     let mut anew = ranking::begin(ranking::end(ranking));
-    let mut same = [[0; 40]; 50];
-    let mut as_heavy = [Score::new(0); 50];
-    take_fifty(&mut memory, &mut anew, true, &mut same, &mut as_heavy)
-        && heads == same
-        && all_differ(&heads)
-        && never_rise(&weights)
-        && weigh_so(&plain, &heads, &weights)
-        && weigh_so(&plain, &heads, &as_heavy)
-        && none_left(&plain, &heads, &weights)
+    let same = take_fifty(rt, rt.alloc(), &mut memory, &mut anew, true)?;
+    let trees = trees.as_slice();
+    assert!(rt; trees.iter().map(|tree| tree.heads).eq(same.iter().map(|tree| tree.heads)));
+    assert!(rt; all_differ(trees));
+    assert!(rt; never_rise(trees));
+    assert!(rt; weigh_so(&plain, trees));
+    assert!(rt; weigh_so(&plain, same.as_slice()));
+    assert!(rt; none_left(&plain, trees));
+    Ok(())
 }
 
 #[test]
-fn forty_words(rt: HostRuntime) {
+fn forty_words(rt: HostRuntime) -> Result<(), Fail> {
     for seed in 1..21 {
-        assert!(rt; fifty(true, seed));
+        fifty(&rt, true, seed)?;
     }
-    assert!(rt; fifty(false, 21));
+    fifty(&rt, false, 21)
 }

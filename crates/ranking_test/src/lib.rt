@@ -2,9 +2,8 @@
 #![tactic(auto)]
 
 #[cfg(test)]
-mod drawing;
-#[cfg(test)]
 mod enumerated;
-mod lists;
 #[cfg(test)]
 mod trees;
+#[cfg(test)]
+mod trial;

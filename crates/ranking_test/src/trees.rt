@@ -1,112 +1,60 @@
 // All trees of a sheet of up to five words, by trying every list of heads.
-use crate::lists::{list, lists};
-use bench::{Plain, fill};
+use bench::{Plain, list, lists};
 use ranking::Taken;
 use refusal::Refusal;
+use std::alloc::{AllocError, Global};
 use weight::Kind;
 
-// The trees of a sheet: their heads and weights, and which of them wait to be handed out.
+// A tree: its heads and its weight.
+#[derive(Drop)]
+struct Tree<K> {
+    heads: [u8; 5],
+    weight: K,
+}
+
+// The trees of a sheet that wait to be handed out, and how many were.
 #[derive(Drop)]
 pub struct Trees<K> {
-    heads: [[u8; 5]; 625],
-    weights: [K; 625],
-    waits: [bool; 625],
-    total: usize,
+    waiting: Vec<Tree<K>>,
     handed: usize,
 }
 
-// Writes a value, where the space has the place.
-fn write<T: Copy>(space: &mut [T], at: usize, value: T) {
-    if at < space.len() {
-        space[at] = value;
-    }
-}
-
-// Writes every tree of the sheet to the front of the space; how many there are.
-fn enumerate<K: Kind + Copy>(
-    plain: &Plain<K>,
-    heads: &mut [[u8; 5]],
-    weights: &mut [K],
-    waits: &mut [bool],
-) -> usize {
-    let mut total: usize = 0;
-    for number in 0..lists(plain.words) {
-        let tried = list(number, plain.words);
-        if let Some(weight) = plain.weigh(tried.get(..plain.words).unwrap_or(&[])) {
-            write(heads, total, tried);
-            write(weights, total, weight);
-            write(waits, total, true);
-            total = total.wrapping_add(1);
-        }
-    }
-    total
-}
-
-// Where a tree with these heads waits; the number of places if none does.
-fn place_of(heads: &[[u8; 5]], waits: &[bool], tree: &[u8]) -> usize {
-    for i in 0..waits.len() {
-        if waits[i] && i < heads.len() && heads[i].starts_with(tree) {
-            return i;
-        }
-    }
-    waits.len()
-}
-
-// Whether no tree that waits outweighs this weight.
-fn none_above<K: Kind>(weights: &[K], waits: &[bool], weight: &K) -> bool {
-    for i in 0..waits.len() {
-        if waits[i] && i < weights.len() && weights[i].compare(weight).is_gt() {
-            return false;
-        }
-    }
-    true
-}
-
-// Whether a tree that waits at this place has this weight, and none that waits outweighs it.
-fn is_next<K: Kind>(weights: &[K], waits: &[bool], at: usize, weight: &K) -> bool {
-    at < weights.len() && weights[at].compare(weight).is_eq() && none_above(weights, waits, weight)
-}
-
 impl<K: Kind + Copy> Trees<K> {
-    // No trees.
-    pub fn new() -> Trees<K> {
-        Trees {
-            heads: [[0; 5]; 625],
-            weights: [K::nothing(); 625],
-            waits: [false; 625],
-            total: 0,
-            handed: 0,
-        }
-    }
-
     // All trees of a sheet, none of them handed out.
-    pub fn reset(&mut self, plain: &Plain<K>) {
-        fill(&mut self.waits, false);
-        self.handed = 0;
-        self.total = enumerate(plain, &mut self.heads, &mut self.weights, &mut self.waits);
+    pub fn new(heap: Global, plain: &Plain<K>) -> Result<Trees<K>, AllocError> {
+        let words = plain.words.min(5) as u8;
+        let mut waiting = Vec::new(heap);
+        for number in 0..lists(words) {
+            let heads = list(number, words);
+            if let Some(weight) = plain.weigh(heads.get(..plain.words).unwrap_or(&[])) {
+                waiting.push(Tree { heads, weight })?;
+            }
+        }
+        Ok(Trees { waiting, handed: 0 })
     }
 
-    // Which refusal the next take should tell.
-    pub fn fault(&self) -> Option<Refusal> {
+    // Whether the next take should hand out a tree, or which refusal it should tell.
+    pub fn check(&self) -> Result<(), Refusal> {
         if self.handed == 50 {
-            Some(Refusal::Fifty)
-        } else if self.total == 0 {
-            Some(Refusal::NoTree)
-        } else if self.handed == self.total {
-            Some(Refusal::NoMore)
+            Err(Refusal::Fifty)
+        } else if !self.waiting.is_empty() {
+            Ok(())
+        } else if self.handed == 0 {
+            Err(Refusal::NoTree)
         } else {
-            None
+            Err(Refusal::NoMore)
         }
     }
 
     // Hands out the tree with these heads; whether a take may do so now, with this weight and count.
     pub fn hands_out(&mut self, heads: &[u8], taken: &Taken<K>) -> bool {
-        let at = place_of(&self.heads, &self.waits, heads);
-        if !is_next(&self.weights, &self.waits, at, &taken.weight) {
+        let weight = &taken.weight;
+        let Some(place) = self.waiting.iter().position(|tree| tree.heads.starts_with(heads)) else {
             return false;
-        }
-        write(&mut self.waits, at, false);
-        self.handed = self.handed.wrapping_add(1);
-        taken.count == self.handed
+        };
+        let none_above = self.waiting.iter().all(|tree| tree.weight.at_most(weight));
+        let tree = self.waiting.remove(place);
+        self.handed = self.handed.saturating_add(1);
+        none_above && tree.weight.compare(weight).is_eq() && taken.count == self.handed
     }
 }

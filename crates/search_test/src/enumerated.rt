@@ -1,154 +1,116 @@
 // Random lines of one to five words: the search answers as an enumeration of all lists of heads does.
-use crate::lines::*;
-use search::Node;
+use crate::lines::Line;
+use desk::Random;
+use std::fmt::Debug;
+use std::process::Abort;
+use std::test::Fail;
 use tree::check_heads;
-use weight::{Cost, Kind, Mark, Root, Score};
+use weight::{Cost, Kind, Mark, Score};
 
-// The next random number below `most`.
-fn random(seed: &mut u64, most: u8) -> u8 {
-    *seed = seed
-        .wrapping_mul(6364136223846793005)
-        .wrapping_add(1442695040888963407);
-    let drawn = ((*seed >> 33) % 256) as u8;
-    if most == 0 { 0 } else { drawn % most }
+// The next random number below `most`, drawn from 256.
+fn below(random: &mut Random, most: u8) -> u8 {
+    let drawn = (random.draw() % 256) as u8;
+    drawn.checked_rem(most).unwrap_or(0)
 }
 
-// Whether the search tells the enumeration's answer, by a tree that has it.
-fn agrees<K: Kind + Copy>(
+// The search tells the enumeration's answer, by a tree that has it.
+fn agrees<K: Kind + Copy + PartialEq + Debug>(
+    rt: &impl Abort,
     line: &mut Line<K>,
     held: &[u8],
     barred: u64,
-    nodes: &mut [Node<K>],
-    merges: &mut [Node<K>],
-    potentials: &mut [Root<K>],
-) -> bool {
-    let wanted = greatest(line, held, barred);
+) -> Result<(), Fail> {
+    let wanted = line.greatest(held, barred);
     let mut heads = [77; 6];
-    let before = line.sets;
-    let told = line.search(held, barred, nodes, merges, potentials, &mut heads);
-    if line.sets != before || line.words > 5 {
-        return false;
+    let before = line.sets.clone()?;
+    let told = line.search(held, barred, &mut heads)?;
+    assert_eq!(rt; told, wanted);
+    assert_eq!(rt; line.sets, before);
+    assert!(rt; line.words <= 5);
+    let (list, rest) = heads.split_at(usize::from(line.words));
+    assert!(rt; rest.iter().all(|head| *head == 77));
+    if wanted.is_some() {
+        assert!(rt; check_heads(list).is_ok());
+        assert_eq!(rt; line.weigh(list), wanted);
+    } else {
+        assert!(rt; list.iter().all(|head| *head == 77));
     }
-    match (told, wanted) {
-        (Ok(None), None) => heads == [77; 6],
-        (Ok(Some(weight)), Some(best)) => {
-            let list = &heads[..line.words];
-            let Some(sum) = line.weigh(list) else {
-                return false;
-            };
-            check_heads(list).is_ok()
-                && heads[line.words] == 77
-                && same(&weight, &best)
-                && same(&weight, &sum)
-        }
-        _ => false,
-    }
-}
-
-fn same<K: Kind>(a: &K, b: &K) -> bool {
-    a.at_most(b) && b.at_most(a)
-}
-
-fn scores_agree(line: &mut Line<Score>, held: &[u8], barred: u64) -> bool {
-    let mut nodes = [Node::new(Score::new(0)); 6];
-    let mut merges = [Node::new(Score::new(0)); 4];
-    let mut potentials: [Root<Score>; 6] = [<Root<_> as Kind>::nothing(); 6];
-    agrees(line, held, barred, &mut nodes, &mut merges, &mut potentials)
-}
-
-fn costs_agree(line: &mut Line<Cost>) -> bool {
-    let mut nodes = [Node::new(Cost::new(0)); 6];
-    let mut merges = [Node::new(Cost::new(0)); 4];
-    let mut potentials: [Root<Cost>; 6] = [<Root<_> as Kind>::nothing(); 6];
-    agrees(line, &[], 0, &mut nodes, &mut merges, &mut potentials)
-}
-
-fn marks_agree(line: &mut Line<Mark<Score>>) -> bool {
-    let nothing = Mark::new(0, Score::new(0));
-    let mut nodes = [Node::new(nothing); 6];
-    let mut merges = [Node::new(nothing); 4];
-    let mut potentials: [Root<Mark<Score>>; 6] = [<Root<_> as Kind>::nothing(); 6];
-    agrees(line, &[], 0, &mut nodes, &mut merges, &mut potentials)
+    Ok(())
 }
 
 // Draws the arcs of a line: how many of six stand, with weights between -2 and 2, so that many are equal.
-fn draw(line: &mut Line<Score>, seed: &mut u64, dense: u8) {
-    for dependent in 1..6 {
-        for head in 0..6 {
-            if dependent <= line.words && head <= line.words && random(seed, 6) < dense {
-                line.put(head, dependent, Score::new(i64::from(random(seed, 5)) - 2));
-            }
-        }
-    }
+fn draw(line: &mut Line<Score>, random: &mut Random, dense: u8) {
+    line.draw(|| {
+        let stands = below(random, 6) < dense;
+        stands.then(|| Score::new(i64::from(below(random, 5)) - 2))
+    });
 }
 
 #[test]
-fn scores_as_enumerated(rt: HostRuntime) {
-    let mut seed = 1;
+fn scores_as_enumerated(rt: HostRuntime) -> Result<(), Fail> {
+    let mut random = Random { seed: 1 };
     for words in 1..6 {
         for round in 0..36 {
-            let mut line = Line::new(words);
-            draw(&mut line, &mut seed, 1 + round % 6);
-            assert!(rt; scores_agree(&mut line, &[], 0));
+            let mut line = Line::new(rt.alloc(), words, 5)?;
+            draw(&mut line, &mut random, 1 + round % 6);
+            agrees(&rt, &mut line, &[], 0)?;
         }
     }
+    Ok(())
 }
 
 #[test]
-fn costs_and_no_arcs_as_enumerated(rt: HostRuntime) {
-    let mut seed = 2;
+fn costs_and_no_arcs_as_enumerated(rt: HostRuntime) -> Result<(), Fail> {
+    let mut random = Random { seed: 2 };
     for words in 1..5 {
-        let mut none: Line<Cost> = Line::new(words);
-        assert!(rt; costs_agree(&mut none));
+        let mut none: Line<Cost> = Line::new(rt.alloc(), words, 5)?;
+        agrees(&rt, &mut none, &[], 0)?;
         for _ in 0..20 {
-            let mut line = Line::new(words);
-            for dependent in 1..5 {
-                for head in 0..5 {
-                    if dependent <= words && head <= words && random(&mut seed, 4) > 0 {
-                        line.put(head, dependent, Cost::new(u32::from(random(&mut seed, 3))));
-                    }
-                }
-            }
-            assert!(rt; costs_agree(&mut line));
+            let mut line = Line::new(rt.alloc(), words, 5)?;
+            line.draw(|| {
+                let stands = below(&mut random, 4) > 0;
+                stands.then(|| Cost::new(u32::from(below(&mut random, 3))))
+            });
+            agrees(&rt, &mut line, &[], 0)?;
         }
     }
+    Ok(())
 }
 
 #[test]
-fn marks_as_enumerated(rt: HostRuntime) {
-    let mut seed = 3;
+fn marks_as_enumerated(rt: HostRuntime) -> Result<(), Fail> {
+    let mut random = Random { seed: 3 };
     for words in 1..5 {
         for _ in 0..20 {
-            let mut line = Line::new(words);
-            for dependent in 1..5 {
-                for head in 0..5 {
-                    if dependent <= words && head <= words && random(&mut seed, 5) > 0 {
-                        let mark = random(&mut seed, 3);
-                        let score = i64::from(random(&mut seed, 200)) * 10 - 1000;
-                        line.put(head, dependent, Mark::new(mark, Score::new(score)));
-                    }
+            let mut line = Line::new(rt.alloc(), words, 5)?;
+            line.draw(|| {
+                if below(&mut random, 5) == 0 {
+                    return None;
                 }
-            }
-            assert!(rt; marks_agree(&mut line));
+                let mark = below(&mut random, 3);
+                let score = i64::from(below(&mut random, 200)) * 10 - 1000;
+                Some(Mark::new(mark, Score::new(score)))
+            });
+            agrees(&rt, &mut line, &[], 0)?;
         }
     }
+    Ok(())
 }
 
 #[test]
-fn held_and_barred_as_enumerated(rt: HostRuntime) {
-    let mut seed = 4;
+fn held_and_barred_as_enumerated(rt: HostRuntime) -> Result<(), Fail> {
+    let mut random = Random { seed: 4 };
     for _ in 0..120 {
-        let mut line = Line::new(4);
-        draw(&mut line, &mut seed, 5);
+        let mut line = Line::new(rt.alloc(), 4, 5)?;
+        draw(&mut line, &mut random, 5);
         let held = [
-            random(&mut seed, 6),
-            random(&mut seed, 6),
-            random(&mut seed, 6),
+            below(&mut random, 6),
+            below(&mut random, 6),
+            below(&mut random, 6),
         ];
-        let many = random(&mut seed, 4) as usize;
-        let barred = u64::from(random(&mut seed, 32));
-        if many <= 3 {
-            assert!(rt; scores_agree(&mut line, &held[..many], barred));
-        }
+        let many = usize::from(below(&mut random, 4));
+        let barred = u64::from(below(&mut random, 32));
+        agrees(&rt, &mut line, held.get(..many).unwrap_or(&[]), barred)?;
     }
+    Ok(())
 }

@@ -5,4 +5,5 @@
 mod enumerated;
 #[cfg(test)]
 mod known;
+#[cfg(test)]
 mod lines;

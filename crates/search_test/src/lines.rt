@@ -1,65 +1,76 @@
 // Lines of up to five words, with the memory that a search of them wants.
+use bench::{list, lists};
 use refusal::Refusal;
-use search::{Node, best_tree, best_tree_barring};
+use search::{Node, Working, best_tree, best_tree_barring};
+use std::alloc::{AllocError, Global};
 use tree::check_heads;
 use weight::{Kind, Root};
+use word_set::{either, holds, only};
 
-// A line: the sets of heads whose arcs stand, and the weights of the arcs.
-#[derive(Clone, Copy)]
+// A line: the sets of heads whose arcs stand, the weights of the arcs, and the working space of a search.
+#[derive(Drop)]
 pub struct Line<K> {
-    pub words: usize,
-    pub sets: [u64; 5],
-    pub weights: [K; 30],
+    pub words: u8,
+    pub sets: Vec<u64>,
+    weights: Vec<K>,
+    nodes: Vec<Node<K>>,
+    merges: Vec<Node<K>>,
+    potentials: Vec<Root<K>>,
 }
 
 impl<K: Kind + Copy> Line<K> {
-    // A line with every arc absent.
-    pub fn new(words: usize) -> Line<K> {
-        Line {
+    // A line with every arc absent, and working space for so many words.
+    pub fn new(heap: Global, words: u8, room: u8) -> Result<Line<K>, AllocError> {
+        let nothing = K::nothing();
+        let room = usize::from(room);
+        Ok(Line {
             words,
-            sets: [0; 5],
-            weights: [K::nothing(); 30],
-        }
+            sets: vec![in heap; 0; 5]?,
+            weights: vec![in heap; nothing; 30]?,
+            nodes: vec![in heap; Node::new(nothing); room + 1]?,
+            merges: vec![in heap; Node::new(nothing); room.saturating_sub(1)]?,
+            potentials: vec![in heap; <Root<_> as Kind>::nothing(); room + 1]?,
+        })
     }
 
-    // The place of an arc's weight.
-    fn place(&self, head: usize, dependent: usize) -> usize {
-        dependent
-            .wrapping_sub(1)
-            .wrapping_mul(self.words.wrapping_add(1))
-            .wrapping_add(head)
+    // The place of the weight of the arc into the word behind so many.
+    fn place(&self, head: u8, before: u8) -> usize {
+        usize::from(before) * (usize::from(self.words) + 1) + usize::from(head)
     }
 
     // Puts an arc.
-    pub fn put(&mut self, head: usize, dependent: usize, weight: K) {
-        let place = self.place(head, dependent);
-        let word = dependent.wrapping_sub(1);
-        if head < 64 && word < 5 && place < 30 {
-            self.sets[word] |= 1 << head;
-            self.weights[place] = weight;
+    pub fn put(&mut self, head: u8, dependent: u8, weight: K) {
+        let before = dependent.saturating_sub(1);
+        let place = self.place(head, before);
+        if let Some(set) = self.sets.get_mut(usize::from(before)) {
+            *set = either(*set, only(usize::from(head)));
+        }
+        if let Some(arc) = self.weights.get_mut(place) {
+            *arc = weight;
         }
     }
 
-    // Whether the arc stands.
-    pub fn stands(&self, head: u8, dependent: usize) -> bool {
-        let word = dependent.wrapping_sub(1);
-        head < 64 && word < 5 && (self.sets[word] >> head) & 1 == 1
+    // Draws for each arc of the line whether it stands, and with which weight.
+    pub fn draw<F: FnMut() -> Option<K>>(&mut self, mut weight: F)
+        requires { F.IsAlwaysCallable weight }
+    {
+        for dependent in 1..=self.words {
+            for head in 0..=self.words {
+                if let Some(weight) = weight() {
+                    self.put(head, dependent, weight);
+                }
+            }
+        }
     }
 
     // The weight of a list of heads, or none where an arc is absent.
     pub fn weigh(&self, heads: &[u8]) -> Option<K> {
-        let mut sum = K::nothing();
-        let mut dependent = 1;
-        for head in heads {
-            let place = self.place(*head as usize, dependent);
-            if !self.stands(*head, dependent) || place >= 30 {
-                return None;
-            }
-            let next = self.weights[place];
-            sum = sum.sum(&next);
-            dependent = dependent.wrapping_add(1);
-        }
-        Some(sum)
+        let mut arcs = (0..=255).zip(heads);
+        arcs.try_fold(K::nothing(), |sum, (before, head)| {
+            let set = self.sets.get(usize::from(before))?;
+            let weight = self.weights.get(self.place(*head, before))?;
+            holds(*set, usize::from(*head)).then(|| sum.sum(weight))
+        })
     }
 
     // What the search answers, with the first words held and some heads of the next one barred.
@@ -67,86 +78,37 @@ impl<K: Kind + Copy> Line<K> {
         &mut self,
         held: &[u8],
         barred: u64,
-        nodes: &mut [Node<K>],
-        merges: &mut [Node<K>],
-        potentials: &mut [Root<K>],
         heads: &mut [u8],
     ) -> Result<Option<K>, Refusal> {
+        let words = usize::from(self.words);
+        let sets = self.sets.as_mut_slice();
+        let weights = self.weights.as_slice();
+        let working = &mut Working {
+            nodes: self.nodes.as_mut_slice(),
+            merges: self.merges.as_mut_slice(),
+            potentials: self.potentials.as_mut_slice(),
+        };
         if barred == 0 {
-            return best_tree(
-                self.words,
-                &self.sets,
-                &self.weights,
-                held,
-                nodes,
-                merges,
-                potentials,
-                heads,
-            );
+            best_tree(words, sets, weights, held, working, heads)
+        } else {
+            best_tree_barring(words, sets, weights, held, barred, working, heads)
         }
-        best_tree_barring(
-            self.words,
-            &mut self.sets,
-            &self.weights,
-            held,
-            barred,
-            nodes,
-            merges,
-            potentials,
-            heads,
-        )
     }
-}
 
-// The next list of so many heads, counted up as a number; `false` after the last.
-fn count_up(heads: &mut [u8], words: usize) -> bool {
-    for i in 0..heads.len() {
-        if i < words {
-            let head = heads[i];
-            if (head as usize) < words && head < 255 {
-                heads[i] = head + 1;
-                return true;
-            }
-            heads[i] = 0;
-        }
+    // The greatest weight of a single-root tree, by trying every list of heads.
+    pub fn greatest(&self, held: &[u8], barred: u64) -> Option<K> {
+        let trees = (0..lists(self.words)).filter_map(|number| {
+            let heads = list(number, self.words);
+            let list = heads.get(..usize::from(self.words))?;
+            let allowed = check_heads(list).is_ok() && fits(list, held, barred);
+            if allowed { self.weigh(list) } else { None }
+        });
+        trees.reduce(|best, weight| if weight.at_most(&best) { best } else { weight })
     }
-    false
 }
 
 // Whether the first words have the held heads, and the next one none of those that are barred.
 fn fits(heads: &[u8], held: &[u8], barred: u64) -> bool {
-    for (i, head) in heads.iter().enumerate() {
-        if i < held.len() {
-            if held[i] != *head {
-                return false;
-            }
-        } else if i == held.len() && *head < 64 && (barred >> *head) & 1 == 1 {
-            return false;
-        }
-    }
-    true
-}
-
-// The greatest weight of a single-root tree, by trying every list of heads.
-pub fn greatest<K: Kind + Copy>(line: &Line<K>, held: &[u8], barred: u64) -> Option<K> {
-    if line.words > 5 {
-        return None;
-    }
-    let mut heads = [0; 5];
-    let mut best: Option<K> = None;
-    for _ in 0..7776 {
-        let list = &heads[..line.words];
-        if check_heads(list).is_ok() && fits(list, held, barred) {
-            if let Some(weight) = line.weigh(list) {
-                best = match best {
-                    None => Some(weight),
-                    Some(old) => Some(if weight.at_most(&old) { old } else { weight }),
-                };
-            }
-        }
-        if !count_up(&mut heads, line.words) {
-            return best;
-        }
-    }
-    best
+    let next = heads.get(held.len());
+    heads.starts_with(held) && next.is_none_or(|head| !holds(barred, usize::from(*head)))
 }

@@ -2,53 +2,32 @@
 // It draws 200 lines, and searches as many of them as the number on standard input says.
 #![tactic(auto)]
 
+use desk::{Memory, Random};
 use reading::read_spaced;
-use search::{Node, best_tree};
 use std::io;
 use std::io::{BufRead, BufReader};
-use weight::{Kind, Root, Score};
+use weight::Score;
 
 // Draws a score for each arc.
-fn draw(seed: &mut u64, weights: &mut [Score]) {
-    for i in 0..weights.len() {
-        *seed = seed
-            .wrapping_mul(6364136223846793005)
-            .wrapping_add(1442695040888963407);
-        let drawn = (*seed >> 33) % 2_000_001;
-        weights[i] = Score::new(drawn as i64 - 1_000_000);
+fn draw(random: &mut Random, weights: &mut [Score]) {
+    for weight in weights.iter_mut() {
+        *weight = random.score();
     }
 }
 
+// Whether a search of the whole line finds a tree.
+fn finds(memory: &mut Memory<Score>) -> bool {
+    matches!(memory.search(40, &[], &mut [0; 40]), Ok(Some(_)))
+}
+
 // Draws the lines and searches the first of them; returns how many trees were found.
-fn run(
-    searches: u8,
-    sets: &[u64],
-    weights: &mut [Score],
-    nodes: &mut [Node<Score>],
-    merges: &mut [Node<Score>],
-    potentials: &mut [Root<Score>],
-    heads: &mut [u8],
-) -> u8 {
-    let mut seed = 12345;
-    let mut found: u8 = 0;
-    for line in 0..200 {
-        draw(&mut seed, weights);
-        if line < searches {
-            if let Ok(Some(_)) = best_tree(
-                40,
-                sets,
-                weights,
-                &[],
-                nodes,
-                merges,
-                potentials,
-                heads,
-            ) {
-                found = found.wrapping_add(1);
-            }
-        }
-    }
-    found
+fn run(searches: u8, memory: &mut Memory<Score>) -> usize {
+    let mut random = Random { seed: 12345 };
+    let found = (0..200).filter(|line| {
+        draw(&mut random, memory.weights.as_mut_slice());
+        *line < searches && finds(memory)
+    });
+    found.count()
 }
 
 // The number on the first line of the input.
@@ -66,20 +45,8 @@ fn ask(rt: &HostRuntime) -> io::Result<u8> {
 
 fn main(rt: HostRuntime) -> io::Result<()> {
     let searches = ask(&rt)?;
-    let sets = [0x1ff_ffff_ffff; 40];
-    let mut weights = [Score::new(0); 1640];
-    let mut nodes = [Node::new(Score::new(0)); 41];
-    let mut merges = [Node::new(Score::new(0)); 39];
-    let mut potentials: [Root<Score>; 41] = [<Root<_> as weight::Kind>::nothing(); 41];
-    let mut heads = [0; 40];
-    let found = run(
-        searches,
-        &sets,
-        &mut weights,
-        &mut nodes,
-        &mut merges,
-        &mut potentials,
-        &mut heads,
-    );
+    let mut memory = Memory::new(rt.alloc())?;
+    memory.sets.fill(0x1ff_ffff_ffff);
+    let found = run(searches, &mut memory);
     println!(rt; "searched {searches} lines of 40 words, found {found} trees")
 }

@@ -1,0 +1,78 @@
+// The calls that are lent their memory in a struct, over a slice for each part.
+ghost use Rattle.std.specs.Prelude.{◌≡◌, ℕ, ◌+◌, length};
+ghost use Rattle.desk.specs.Lent.{parts};
+ghost use Rattle.ranking.specs.Calls.{Took};
+ghost use Rattle.search.specs.Answer.{Searched, barring};
+ghost use Rattle.search.specs.Arcs.{allowed, weight_at};
+ghost use Rattle.search.specs.State.{Room};
+
+use ranking::{Ranking, Taken, take};
+use refusal::Refusal;
+use search::{Node, Working, best_tree, best_tree_barring};
+use sheet::Candidate;
+use weight::{Kind, Opens, Root};
+
+// The heaviest tree over the arcs that stand.
+pub(crate) fn search_in<K: Kind + Copy>(
+    words: usize,
+    sets: &[u64],
+    weights: &[K],
+    held: &[u8],
+    nodes: &mut [Node<K>],
+    merges: &mut [Node<K>],
+    potentials: &mut [Root<K>],
+    heads: &mut [u8],
+) -> Result<Option<K>, Refusal>
+    ensures { Searched K.Kind.worth K.Kind.ranges words (allowed sets.now held.now) (weight_at K.Kind.worth words weights.now) (Room words (length sets.now) (length weights.now) (length nodes.old) (length merges.old) (length potentials.old)) heads.old heads.new result }
+{
+    let working = &mut Working {
+        nodes,
+        merges,
+        potentials,
+    };
+    best_tree(words, sets, weights, held, working, heads)
+}
+
+// The same without the arcs from the barred heads into the first word that is not held.
+pub(crate) fn search_barring_in<K: Kind + Copy>(
+    words: usize,
+    sets: &mut [u64],
+    weights: &[K],
+    held: &[u8],
+    barred: u64,
+    nodes: &mut [Node<K>],
+    merges: &mut [Node<K>],
+    potentials: &mut [Root<K>],
+    heads: &mut [u8],
+) -> Result<Option<K>, Refusal>
+    ensures kept { sets.new ≡ sets.old }
+    ensures told { Searched K.Kind.worth K.Kind.ranges words (barring (allowed sets.old held.now) (length held.now + 1) barred) (weight_at K.Kind.worth words weights.now) (Room words (length sets.old) (length weights.now) (length nodes.old) (length merges.old) (length potentials.old)) heads.old heads.new result }
+{
+    let working = &mut Working {
+        nodes,
+        merges,
+        potentials,
+    };
+    best_tree_barring(words, sets, weights, held, barred, working, heads)
+}
+
+// Takes a tree of the ranking.
+pub(crate) fn take_in<K: Opens + Copy>(
+    ranking: &mut Ranking<K>,
+    weights: &[K],
+    sets: &mut [u64],
+    candidates: &mut [Candidate<K>],
+    nodes: &mut [Node<K>],
+    merges: &mut [Node<K>],
+    potentials: &mut [Root<K>],
+    space: &mut [u8],
+) -> Result<Taken<K>, Refusal>
+    ensures { Took K.Kind.worth K.Kind.ranges ranking.old ranking.new (parts weights.now sets.old candidates.old nodes.old merges.old potentials.old) (parts weights.now sets.new candidates.new nodes.new merges.new potentials.new) space.old space.new result }
+{
+    let working = &mut Working {
+        nodes,
+        merges,
+        potentials,
+    };
+    take(ranking, weights, sets, candidates, working, space)
+}

@@ -1,0 +1,214 @@
+// The memory of a sheet, and the calls that work in it.
+ghost use Rattle.std.specs.Prelude.{◌≡◌, ℕ, ◌+◌, length, replicate, is_some, IfOk, Some, None, vec_len};
+
+use crate::lent::{search_barring_in, search_in, take_in};
+use file::{FileFault, Recorded};
+use ranking::{Ranking, Taken};
+use refusal::Refusal;
+use run::{Call, Turn};
+use search::{Node, Working};
+use sheet::{Candidate, Sheet, Spare};
+use std::alloc::{AllocError, Global};
+use weight::{Kind, Opens, Root};
+
+// Every part of the memory, as long as a sheet of 40 words wants it.
+#[derive(Drop)]
+pub struct Memory<K> {
+    pub weights: Vec<K>,
+    pub sets: Vec<u64>,
+    pub candidates: Vec<Candidate<K>>,
+    pub nodes: Vec<Node<K>>,
+    pub merges: Vec<Node<K>>,
+    pub potentials: Vec<Root<K>>,
+    ghost arcs: { (vec_len weights ≡ 1640) × (vec_len sets ≡ 40) },
+    ghost waiting: { vec_len candidates ≡ 51 },
+    ghost space: { (vec_len nodes ≡ 41) × (vec_len merges ≡ 39) × (vec_len potentials ≡ 41) },
+}
+
+impl<K: Opens + Copy> Memory<K> {
+    ghost use Rattle.desk.specs.Parts.{parts_of};
+    ghost use Rattle.ranking.specs.Calls.{Took, lengths_of};
+    ghost use Rattle.ranking.specs.Memory.{Memory as Parts};
+    ghost use Rattle.run.specs.Steps.{Ran, run_check};
+    ghost use Rattle.search.specs.Answer.{Searched, barring};
+    ghost use Rattle.search.specs.Arcs.{allowed, weight_at};
+    ghost use Rattle.search.specs.State.{Room};
+    ghost use Rattle.sheet.specs.Arcs.{arcs_in, no_arcs, with_arc};
+    ghost use Rattle.sheet.specs.Calls.{Answered, Holds, open_check, put_check, strike_check};
+    ghost use Rattle.weight.specs.Range.{entry_in};
+
+    // Memory in which no arc stands.
+    pub fn new(heap: Global) -> Result<Memory<K>, AllocError>
+        ensures { IfOk result (λ m. m.sets.items ≡ replicate 40 0) }
+    {
+        let nothing = K::nothing();
+        Ok(Memory {
+            weights: vec![in heap; nothing; 1640]?,
+            sets: vec![in heap; 0; 40]?,
+            candidates: vec![in heap; Candidate::new(nothing); 51]?,
+            nodes: vec![in heap; Node::new(nothing); 41]?,
+            merges: vec![in heap; Node::new(nothing); 39]?,
+            potentials: vec![in heap; <Root<_> as Kind>::nothing(); 41]?,
+        })
+    }
+
+    // Opens a sheet.
+    pub fn open(&mut self, words: usize) -> Result<Sheet<K>, Refusal>
+        ensures answer { Answered (open_check words (lengths_of (parts_of self.old))) result (self.new.sets.items ≡ self.old.sets.items) (IfOk result (λ s. s.words ≡ words) × Holds words no_arcs self.old.weights.items self.new.weights.items self.old.sets.items self.new.sets.items) }
+        ensures others { parts_of self.new ≡ record (parts_of self.old) { sets = self.new.sets.items } }
+    {
+        let spare = Spare {
+            candidates: &self.candidates,
+            nodes: &self.nodes,
+            merges: &self.merges,
+            potentials: &self.potentials,
+        };
+        sheet::open(words, &self.weights, &mut self.sets, spare)
+    }
+
+    // Gives an arc a weight, in place of any that it had.
+    pub fn put(
+        &mut self,
+        sheet: &Sheet<K>,
+        head: usize,
+        dependent: usize,
+        weight: K,
+    ) -> Result<(), Refusal>
+        ensures answer { Answered (put_check sheet.now.words 1640 40 head dependent (entry_in K.Kind.ranges (K.Kind.worth weight))) result ((self.new.weights.items ≡ self.old.weights.items) × (self.new.sets.items ≡ self.old.sets.items)) (Holds sheet.now.words (with_arc head dependent (Some weight) (arcs_in sheet.now.words self.old.weights.items self.old.sets.items)) self.old.weights.items self.new.weights.items self.old.sets.items self.new.sets.items) }
+        ensures others { parts_of self.new ≡ record (parts_of self.old) { weights = self.new.weights.items; sets = self.new.sets.items } }
+    {
+        let Memory { weights, sets, .. } = self;
+        sheet::put(sheet, weights, sets, head, dependent, weight)
+    }
+
+    // Makes an arc absent.
+    pub fn strike(&mut self, sheet: &Sheet<K>, head: usize, dependent: usize) -> Result<(), Refusal>
+        ensures answer { Answered (strike_check sheet.now.words 1640 40 head dependent (is_some (arcs_in sheet.now.words self.old.weights.items self.old.sets.items head dependent))) result (self.new.sets.items ≡ self.old.sets.items) (Holds sheet.now.words (with_arc head dependent None (arcs_in sheet.now.words self.old.weights.items self.old.sets.items)) self.old.weights.items self.new.weights.items self.old.sets.items self.new.sets.items) }
+        ensures others { parts_of self.new ≡ record (parts_of self.old) { sets = self.new.sets.items } }
+    {
+        sheet::strike(sheet, &self.weights, &mut self.sets, head, dependent)
+    }
+
+    // The heaviest tree of the line over the arcs that stand, with the first words held, each at its head in `held`.
+    pub fn search(
+        &mut self,
+        words: usize,
+        held: &[u8],
+        heads: &mut [u8],
+    ) -> Result<Option<K>, Refusal>
+        ensures told { Searched K.Kind.worth K.Kind.ranges words (allowed self.old.sets.items held.now) (weight_at K.Kind.worth words self.old.weights.items) (Room words 40 1640 41 39 41) heads.old heads.new result }
+        ensures others { parts_of self.new ≡ record (parts_of self.old) { nodes = self.new.nodes.items; merges = self.new.merges.items; potentials = self.new.potentials.items } }
+    {
+        let (weights, sets) = (&self.weights, &self.sets);
+        let Memory {
+            nodes,
+            merges,
+            potentials,
+            ..
+        } = self;
+        search_in(words, sets, weights, held, nodes, merges, potentials, heads)
+    }
+
+    // The same without the arcs from the barred heads into the first word that is not held.
+    pub fn search_barring(
+        &mut self,
+        words: usize,
+        held: &[u8],
+        barred: u64,
+        heads: &mut [u8],
+    ) -> Result<Option<K>, Refusal>
+        ensures told { Searched K.Kind.worth K.Kind.ranges words (barring (allowed self.old.sets.items held.now) (length held.now + 1) barred) (weight_at K.Kind.worth words self.old.weights.items) (Room words 40 1640 41 39 41) heads.old heads.new result }
+        ensures others { parts_of self.new ≡ record (parts_of self.old) { nodes = self.new.nodes.items; merges = self.new.merges.items; potentials = self.new.potentials.items } }
+    {
+        let weights = &self.weights;
+        let Memory {
+            sets,
+            nodes,
+            merges,
+            potentials,
+            ..
+        } = self;
+        search_barring_in(
+            words, sets, weights, held, barred, nodes, merges, potentials, heads,
+        )
+    }
+
+    // Takes a tree of the ranking: its heads go to the front of the space.
+    pub fn take(&mut self, ranking: &mut Ranking<K>, space: &mut [u8]) -> Result<Taken<K>, Refusal>
+        ensures { Took K.Kind.worth K.Kind.ranges ranking.old ranking.new (parts_of self.old) (parts_of self.new) space.old space.new result }
+    {
+        let weights = &self.weights;
+        let Memory {
+            sets,
+            candidates,
+            nodes,
+            merges,
+            potentials,
+            ..
+        } = self;
+        take_in(
+            ranking, weights, sets, candidates, nodes, merges, potentials, space,
+        )
+    }
+
+    // Opens a sheet of so many words, makes the calls in their order, and notes each with its answer. The memory is used up.
+    pub fn run(self, words: usize, calls: &[Call<K>], turns: &mut [Turn<K>]) -> Result<(), Refusal>
+        ensures { (after : Parts K) × Answered (run_check words (lengths_of (parts_of self)) (length calls.now) (length turns.old)) result (turns.new ≡ turns.old) (Ran K.Kind.worth K.Kind.ranges words calls.now (parts_of self) after turns.old turns.new) }
+    {
+        let Memory {
+            mut weights,
+            mut sets,
+            mut candidates,
+            mut nodes,
+            mut merges,
+            mut potentials,
+        } = self;
+        let working = Working {
+            nodes: nodes.as_mut_slice(),
+            merges: merges.as_mut_slice(),
+            potentials: potentials.as_mut_slice(),
+        };
+        let mut lent = run::Memory {
+            weights: weights.as_mut_slice(),
+            sets: sets.as_mut_slice(),
+            candidates: candidates.as_mut_slice(),
+            working,
+        };
+        run::run(words, calls, &mut lent, turns)
+    }
+
+    // Fills the working space with another weight.
+    pub fn litter(&mut self, weight: K)
+        ensures { parts_of self.new ≡ record (parts_of self.old) { nodes = self.new.nodes.items; merges = self.new.merges.items; potentials = self.new.potentials.items } }
+    {
+        for node in self.nodes.iter_mut() {
+            *node = Node::new(weight);
+        }
+        for merge in self.merges.iter_mut() {
+            *merge = Node::new(weight);
+        }
+        for potential in self.potentials.iter_mut() {
+            *potential = Root::new(0, weight);
+        }
+    }
+}
+
+impl<K: Recorded + Copy> Memory<K> {
+    ghost use Rattle.desk.specs.Parts.{parts_of};
+    ghost use Rattle.file.specs.Reading.{ReadAs};
+    ghost use Rattle.ranking.specs.Calls.{lengths_of};
+
+    // Reads a file of the kind: opens a sheet and puts the file's records on it.
+    pub fn read(&mut self, file: &[u8]) -> Result<Sheet<K>, FileFault>
+        ensures answer { ReadAs K.format (lengths_of (parts_of self.old)) file.now result self.old.weights.items self.new.weights.items self.old.sets.items self.new.sets.items }
+        ensures others { parts_of self.new ≡ record (parts_of self.old) { weights = self.new.weights.items; sets = self.new.sets.items } }
+    {
+        let spare = Spare {
+            candidates: &self.candidates,
+            nodes: &self.nodes,
+            merges: &self.merges,
+            potentials: &self.potentials,
+        };
+        file::read(file, &mut self.weights, &mut self.sets, spare)
+    }
+}
