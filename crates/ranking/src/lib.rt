@@ -146,6 +146,7 @@ pub fn take<K: Opens + Copy>(
     ensures took { Took K.Kind.worth K.Kind.ranges ranking.old ranking.new (memory_of weights.now sets.old candidates.old working.old) (memory_of weights.now sets.new candidates.new working.new) space.old space.new result }
     ensures parts { SameParts working.old working.new }
 {
+    // Not by `Spare::lengths`: a `Spare` would have to be made of these very slices first, to say the same six lengths.
     let lengths = Lengths {
         weights: weights.len(),
         sets: sets.len(),
