@@ -10,7 +10,7 @@ use Rattle.search.specs.declared.family.Node.{Node}
 use Rattle.search.specs.declared.graph.Graph.{Graph}
 use Rattle.word_set.specs.Bits.{in_set}
 use Rattle.weight.specs.Worth.{zeros}
-use Rattle.weight.specs.Layers.{root_worth}
+use Rattle.weight.specs.Layers.{Root, root_worth}
 use Rattle.search.specs.Arcs.{stands_in, arc_in, SoundIn, potential, Best, SetArc, with_potential}
 use Rattle.search.specs.Family.{Group, rep_of, best_of, add_of, Valid}
 use Rattle.search.specs.State.{view, blank, group_at, family, NoTree, StateIn, SpaceFor}
