@@ -36,7 +36,7 @@ impl<K: Kind + Copy> Graph<'_, K> {
         let Some(head) = self.held.get(word - 1) else {
             return heads;
         };
-        let head = *head as usize;
+        let head = usize::from(*head);
         if head > self.words {
             return 0;
         }
@@ -138,7 +138,7 @@ impl<K: Kind + Copy> Graph<'_, K> {
     {
         let mut sum: Root<K> = <Root<_> as Kind>::nothing();
         for (i, head) in heads[..self.words].iter().enumerate() {
-            let next = self.arc(*head as usize, i + 1);
+            let next = self.arc(usize::from(*head), i + 1);
             sum = sum.sum(&next);
         }
         sum

@@ -15,7 +15,7 @@ arc-next-requires-clause-from g c =
     let n : ℕ = c.args.self.now.words in
     let long = length-take-le n c.args.heads.now c.requires.room in
     let v : Word n (c.loop-i.i + 1) = omega (arith, c.loop-i-test.true) in
-    subst (λ (h : ℕ). h ≤ n) (head_next n c.args.heads.now c.loop-i.i v.1) (c.requires.in_line (c.loop-i.i + 1) v)
+    rw c.from.ensures (subst (λ (h : ℕ). h ≤ n) (head_next n c.args.heads.now c.loop-i.i v.1) (c.requires.in_line (c.loop-i.i + 1) v))
 
 pub loop-i-preserved : goal.loop-i-preserved
 loop-i-preserved g c =
@@ -27,7 +27,7 @@ loop-i-preserved g c =
     let v : Word n (i + 1) = omega (arith, c.loop-i-test.true) in
     let worth : ℕ → ℕ → Worth = arc_in f c.args.self.now in
     let term : ℕ → Worth = λ d. worth (head_of c.args.heads.now d) d in
-    let at : root_worth f c.arc-next.result ≡ term (i + 1) = c.arc-next.ensures ∙ ap (λ (h : ℕ). worth h (i + 1)) (sym (head_next n c.args.heads.now i v.1)) in
+    let at : root_worth f c.arc-next.result ≡ term (i + 1) = (rw c.from.ensures at c.arc-next.ensures) ∙ ap (λ (h : ℕ). worth h (i + 1)) (sym (head_next n c.args.heads.now i v.1)) in
     let le : (2 ^ 20) * i ≤ 2 ^ 40 = omega (arith, v.1, c.args.self.now.few) in
     let so_far : Within (2 ^ 40) (root_worth f c.loop-i.sum) = subst (Within (2 ^ 40)) (sym c.loop-i.invariant) (sum_small (2 ^ 20) (suc g.K.Kind.places) (λ _. true) term i (2 ^ 40) (λ d u. c.requires.small d (u.0, omega arith)) le) in
     let next : Within (2 ^ 40) (root_worth f c.arc-next.result) = subst (Within (2 ^ 40)) (sym at) (within_more (2 ^ 20) (2 ^ 40) (term (i + 1)) (omega arith) (c.requires.small (i + 1) v)) in
