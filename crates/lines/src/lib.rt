@@ -57,7 +57,7 @@ pub fn tree_line<K: Kind>(
     around.write(weight, room, space)
 }
 
-// The last line of a ranking.
+// The last line of a ranking: bytes, and no `Display`, since the space is lent and there is no heap.
 pub fn last_line(last: Last, space: &mut [u8]) -> Result<usize, Refusal>
     ensures { Placed (last_text last) space.old 0 result space.new }
 {

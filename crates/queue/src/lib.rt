@@ -13,7 +13,8 @@ ghost use Rattle.queue.specs.Runs.{CameOut, Emptied, RunRefused};
 ghost use Rattle.std.specs.Cmp.{IsStrictWeakOrder};
 ghost use Rattle.std.specs.List.Sorted.{IsPermutation};
 
-// A type whose values are ranked by a strict weak order. Of two different values it may be that neither outranks the other.
+// A type whose values are ranked by a strict weak order. Of two different values it may be that neither outranks the other, which
+// `Ord` does not allow.
 pub trait Ranked {
     // `above x y`: x outranks y.
     ghost above: { Self → Self → Bool };

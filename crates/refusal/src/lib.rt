@@ -35,7 +35,7 @@ pub enum Refusal {
 }
 
 impl Refusal {
-    // The number of the refusal.
+    // The number of the refusal. An enum's own numbers are read by a cast: there is no plainer form.
     pub fn number(self) -> u8
         ensures value { result ≡ number_of self }
         ensures apart { ToldApart }

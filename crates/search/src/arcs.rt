@@ -51,6 +51,7 @@ impl<K: Kind + Copy> Graph<'_, K> {
         ensures { Best K.Kind.worth (SetArc self.now.words (self.now.words + 1) (stands_in self.now) inside) (with_potential (arc_in K.Kind.worth self.now) (potential K.Kind.worth potentials.now)) result }
     {
         let mut best: Option<Entering<K>> = None;
+        // by the word and not by the potentials' items: the word asks for its heads and its arc too
         for to in 1..self.words + 1 {
             if holds(inside, to) {
                 let heads = without(self.open_heads(to), inside);

@@ -151,6 +151,7 @@ impl<K: Kind + Copy> Family<'_, K> {
         requires total { Within (2 ^ 32) (root_worth K.Kind.worth all) }
         ensures { (d : ℕ) → Word self.now.words d → potential K.Kind.worth potentials.new d ≡ (if in_set members d then minus (plus (potential K.Kind.worth potentials.old d) (root_worth K.Kind.worth all)) (best_of (base_in K.Kind.worth self.now) (sets_in K.Kind.worth self.now) d) else potential K.Kind.worth potentials.old d) }
     {
+        // by the word and not by the potentials' items: the word asks for its set too
         for word in 1..self.words + 1 {
             if holds(members, word) {
                 let node = self.top(word);

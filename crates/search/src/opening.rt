@@ -15,6 +15,7 @@ fn set_head(heads: &mut [u8], word: usize, from: usize)
     ensures here { head_of heads.new word ≡ from }
     ensures there { (v : ℕ) → (v ≡ word → ⊥) → head_of heads.new v ≡ head_of heads.old v }
 {
+    // a head fits a byte: `try_from` would owe an answer for heads that do not come
     heads[word - 1] = from as u8;
 }
 

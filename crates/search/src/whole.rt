@@ -33,6 +33,7 @@ fn begin<K: Kind + Copy>(graph: &Graph<'_, K>, nodes: &mut [Node<K>]) -> Option<
     ensures { MatchOption result (NoTree graph.now.words (stands_in graph.now)) (λ _. Begun graph.now.words (stands_in graph.now) (arc_in K.Kind.worth graph.now) (zeros (suc K.Kind.places)) (group_at K.Kind.worth nodes.new)) }
 {
     nodes[0] = Node::new(K::nothing());
+    // by the word and not by the nodes' items: the word asks for its heads and its arc too
     for to in 1..graph.words + 1 {
         let members = only(to);
         let from = graph.best_head(to, without(graph.open_heads(to), members))?;
@@ -45,7 +46,8 @@ fn begin<K: Kind + Copy>(graph: &Graph<'_, K>, nodes: &mut [Node<K>]) -> Option<
     Some(())
 }
 
-// The heads of a heaviest arborescence over the root layer; none exactly where there is none.
+// The heads of a heaviest arborescence over the root layer; none exactly where there is none. The parts of the working space come
+// one by one from here on, since the nodes are only read once they are begun.
 pub(crate) fn heaviest<K: Kind + Copy>(
     graph: &Graph<'_, K>,
     nodes: &mut [Node<K>],

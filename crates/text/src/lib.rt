@@ -32,6 +32,7 @@ impl Decimal for usize {
     ghost text = { decimal };
 
     fn parts(self) -> (bool, u64) {
+        // `u64` is not `From<usize>`
         (self as u64).parts()
     }
 }
@@ -92,6 +93,7 @@ fn write_digits(n: u64, space: &mut [u8], at: usize) -> usize
     ensures end { result ≡ at + length (decimal n) }
     ensures after { space.new ≡ written space.old at (decimal n) }
 {
+    // a remainder fits a byte: `try_from` would owe an answer for numbers that do not come
     let digit = (n % 10) as u8 + b'0';
     if n < 10 {
         space[at] = digit;

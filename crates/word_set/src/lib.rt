@@ -60,6 +60,7 @@ impl Iterator for Words {
         if self.left == 0 {
             return None;
         }
+        // `usize` is not `From<u32>`
         let word = self.left.trailing_zeros() as usize;
         self.left &= self.left - 1;
         Some(word)
