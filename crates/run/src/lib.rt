@@ -228,6 +228,7 @@ pub fn run<K: Opens + Copy>(
         &mut memory.working,
     )?;
     let mut state = State::Open(sheet);
+    // by the place: of what is written over `turns.iter_mut()` nothing is known after the loop
     for (i, call) in calls.iter().enumerate() {
         let (next, answer) = step(state, *call, memory);
         state = next;
