@@ -95,5 +95,6 @@ pub(crate) fn check(file: &[u8]) -> Result<(), (u8, usize)> {
 // Whether some record names the arc.
 pub(crate) fn named(file: &[u8], head: usize, dependent: usize) -> bool {
     let mut records = file.get(5..).unwrap_or(&[]).chunks(width(file));
-    records.any(|record| usize::from(at(record, 0)) == head && usize::from(at(record, 1)) == dependent)
+    records.any(|record| usize::from(at(record, 0)) == head
+        && usize::from(at(record, 1)) == dependent)
 }
