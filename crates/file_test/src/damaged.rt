@@ -72,15 +72,21 @@ fn every_byte_changed_to_every_value(rt: HostRuntime) -> Result<(), Fail> {
 
 // The number and place of the fault that the reader of scores tells of a file, with a memory for so many words.
 fn told(heap: Global, file: &[u8], room: usize) -> Result<Result<(), (u8, usize)>, AllocError> {
-    let mut memory = Memory::<Score>::new(heap)?;
+    let Memory {
+        mut weights,
+        mut sets,
+        candidates,
+        nodes,
+        merges,
+        potentials,
+    } = Memory::<Score>::new(heap)?;
     let spare = Spare {
-        candidates: memory.candidates.as_slice(),
-        nodes: memory.nodes.as_slice(),
-        merges: memory.merges.as_slice(),
-        potentials: memory.potentials.as_slice(),
+        candidates: &candidates,
+        nodes: &nodes,
+        merges: &merges,
+        potentials: &potentials,
     };
-    let weights = memory.weights.as_mut_slice();
-    let told = read(file, weights, &mut memory.sets[..room.min(40)], spare);
+    let told = read(file, &mut weights, &mut sets[..room.min(40)], spare);
     Ok(
         told.map(drop)
             .map_err(|fault| (fault.number(), fault.place())),
