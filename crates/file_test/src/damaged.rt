@@ -72,16 +72,25 @@ fn every_byte_changed_to_every_value(rt: HostRuntime) -> Result<(), Fail> {
 
 // The number and place of the fault that the reader of scores tells of a file, with a memory for so many words.
 fn told(heap: Global, file: &[u8], room: usize) -> Result<Result<(), (u8, usize)>, AllocError> {
-    let mut memory = Memory::<Score>::new(heap)?;
+    let Memory {
+        mut weights,
+        mut sets,
+        candidates,
+        nodes,
+        merges,
+        potentials,
+    } = Memory::<Score>::new(heap)?;
     let spare = Spare {
-        candidates: memory.candidates.as_slice(),
-        nodes: memory.nodes.as_slice(),
-        merges: memory.merges.as_slice(),
-        potentials: memory.potentials.as_slice(),
+        candidates: &candidates,
+        nodes: &nodes,
+        merges: &merges,
+        potentials: &potentials,
     };
-    let weights = memory.weights.as_mut_slice();
-    let told = read(file, weights, &mut memory.sets[..room.min(40)], spare);
-    Ok(told.map(drop).map_err(|fault| (fault.number(), fault.place())))
+    let told = read(file, &mut weights, &mut sets[..room.min(40)], spare);
+    Ok(
+        told.map(drop)
+            .map_err(|fault| (fault.number(), fault.place())),
+    )
 }
 
 // Each refusal at its place.
@@ -95,10 +104,22 @@ fn known_faults(rt: HostRuntime) -> Result<(), Fail> {
     assert_eq!(rt; told(heap, &[1, 0, 3, 1, 1, 0], 40)?, Err((12, 1)));
     assert_eq!(rt; told(heap, &GOOD, 1)?, Err((2, 0)));
     assert_eq!(rt; told(heap, &GOOD, 2)?, Ok(()));
-    assert_eq!(rt; told(heap, &[1, 0, 8, 1, 1, 0, 0, 0, 0, 0, 1], 40)?, Err((3, 6)));
-    assert_eq!(rt; told(heap, &[1, 0, 8, 1, 1, 2, 1, 0, 0, 0, 1], 40)?, Err((4, 5)));
-    assert_eq!(rt; told(heap, &[1, 0, 8, 1, 1, 1, 1, 0, 0, 0, 1], 40)?, Err((5, 6)));
-    assert_eq!(rt; told(heap, &[1, 0, 8, 1, 1, 0, 1, 0, 15, 66, 65], 40)?, Err((6, 7)));
+    assert_eq!(rt;
+        told(heap, &[1, 0, 8, 1, 1, 0, 0, 0, 0, 0, 1], 40)?,
+        Err((3, 6))
+    );
+    assert_eq!(rt;
+        told(heap, &[1, 0, 8, 1, 1, 2, 1, 0, 0, 0, 1], 40)?,
+        Err((4, 5))
+    );
+    assert_eq!(rt;
+        told(heap, &[1, 0, 8, 1, 1, 1, 1, 0, 0, 0, 1], 40)?,
+        Err((5, 6))
+    );
+    assert_eq!(rt;
+        told(heap, &[1, 0, 8, 1, 1, 0, 1, 0, 15, 66, 65], 40)?,
+        Err((6, 7))
+    );
     Ok(())
 }
 

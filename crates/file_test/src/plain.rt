@@ -1,5 +1,6 @@
 // The first fault of a file, and the arcs that its records name, read from the bytes alone. This reading shares nothing with
 // the reader that it stands beside, so its kinds and faults are the numbers that stand in a file and in its refused line.
+ghost use Rattle.std.specs.Prelude.{◌<◌};
 
 // A byte of the file; 0 beyond its end.
 fn at(file: &[u8], place: usize) -> u8 {
@@ -17,7 +18,9 @@ pub(crate) fn words(file: &[u8]) -> usize {
 }
 
 // How long a record is.
-fn width(file: &[u8]) -> usize {
+fn width(file: &[u8]) -> usize
+    ensures { 0 < result }
+{
     if kind(file) == 3 { 7 } else { 6 }
 }
 
@@ -43,16 +46,16 @@ fn check_record(file: &[u8], record: &[u8], place: usize) -> Result<(), (u8, usi
     };
     let words = at(file, 4);
     if *dependent < 1 || words < *dependent {
-        return Err((3, place + 1));
+        return Err((3, place.saturating_add(1)));
     }
     if words < *head {
         return Err((4, place));
     }
     if head == dependent {
-        return Err((5, place + 1));
+        return Err((5, place.saturating_add(1)));
     }
     if !entry(kind(file), weight) {
-        return Err((6, place + 2));
+        return Err((6, place.saturating_add(2)));
     }
     Ok(())
 }
@@ -95,5 +98,6 @@ pub(crate) fn check(file: &[u8]) -> Result<(), (u8, usize)> {
 // Whether some record names the arc.
 pub(crate) fn named(file: &[u8], head: usize, dependent: usize) -> bool {
     let mut records = file.get(5..).unwrap_or(&[]).chunks(width(file));
-    records.any(|record| usize::from(at(record, 0)) == head && usize::from(at(record, 1)) == dependent)
+    records.any(|record| usize::from(at(record, 0)) == head
+        && usize::from(at(record, 1)) == dependent)
 }

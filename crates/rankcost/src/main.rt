@@ -57,7 +57,9 @@ fn main(rt: HostRuntime) -> io::Result<()> {
     let (lines, takes) = ask(&rt)?;
     let mut memory = Memory::new(rt.alloc())?;
     match rank_lines(lines, takes, &mut memory) {
-        Ok(got) => println!(rt; "ranked {lines} lines of 40 words, {takes} takes each: {got} trees"),
+        Ok(got) => println!(rt;
+            "ranked {lines} lines of 40 words, {takes} takes each: {got} trees"
+        ),
         Err(why) => println!(rt; "{why}"),
     }
 }
