@@ -55,7 +55,10 @@ fn open_two<K: Opens + Copy>(
 }
 
 // How many trees come when every arc is at 0, and the refusal that follows.
-fn count_out(memory: &mut Memory<Score>, words: usize) -> Result<Option<(usize, Refusal)>, Refusal> {
+fn count_out(
+    memory: &mut Memory<Score>,
+    words: usize,
+) -> Result<Option<(usize, Refusal)>, Refusal> {
     let sheet = memory.open(words)?;
     for dependent in 1..=words {
         for head in 0..=words {
@@ -84,7 +87,13 @@ fn known_scores(rt: HostRuntime) -> Result<(), Fail> {
     memory.put(&sheet, 1, 2, Score::new(10))?;
     memory.put(&sheet, 2, 3, Score::new(10))?;
     memory.put(&sheet, 3, 1, Score::new(10))?;
-    hands_two(&rt, &mut memory, sheet, (&[3, 0, 2], b"22"), (&[0, 1, 2], b"21"))?;
+    hands_two(
+        &rt,
+        &mut memory,
+        sheet,
+        (&[3, 0, 2], b"22"),
+        (&[0, 1, 2], b"21"),
+    )?;
     Ok(())
 }
 
@@ -99,7 +108,13 @@ fn known_costs_and_marks(rt: HostRuntime) -> Result<(), Fail> {
         &mut marks,
         weights.map(|(mark, score)| Mark::new(mark, Score::new(score))),
     )?;
-    hands_two(&rt, &mut marks, sheet, (&[2, 0], b"1,-53"), (&[0, 1], b"0,107"))?;
+    hands_two(
+        &rt,
+        &mut marks,
+        sheet,
+        (&[2, 0], b"1,-53"),
+        (&[0, 1], b"0,107"),
+    )?;
     Ok(())
 }
 

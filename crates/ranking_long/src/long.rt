@@ -16,6 +16,18 @@ struct Tree {
     weight: Score,
 }
 
+// A score drawn from many.
+fn of_many(random: &mut Random) -> Score {
+    let coarse = i64::from(random.below(200));
+    let fine = i64::from(random.below(200));
+    Score::new(coarse * 5000 + fine * 25 - 500_000)
+}
+
+// A score drawn from three.
+fn of_three(random: &mut Random) -> Score {
+    Score::new(i64::from(random.below(3)) * 25)
+}
+
 // Puts every arc of forty words, with scores drawn from many or from three; just the loops are refused.
 fn put_all(
     rt: &impl Abort,
@@ -27,9 +39,11 @@ fn put_all(
 ) {
     for dependent in 1..41 {
         for head in 0..41 {
-            let coarse = if many { random.below(200) } else { 100 };
-            let fine = random.below(if many { 200 } else { 3 });
-            let weight = Score::new(i64::from(coarse) * 5000 + i64::from(fine) * 25 - 500_000);
+            let weight = if many {
+                of_many(random)
+            } else {
+                of_three(random)
+            };
             let told = memory.put(sheet, head, dependent, weight);
             assert_eq!(rt; told, plain.put(head, dependent, weight));
         }
@@ -85,7 +99,9 @@ fn has(trees: &[Tree], heads: &[u8; 40]) -> bool {
 
 // Whether the heads are trees of the sheet with these weights.
 fn weigh_so(plain: &Plain<Score>, trees: &[Tree]) -> bool {
-    trees.iter().all(|tree| plain.weigh(&tree.heads) == Some(tree.weight))
+    trees
+        .iter()
+        .all(|tree| plain.weigh(&tree.heads) == Some(tree.weight))
 }
 
 // Whether no tree outweighs this weight that has all heads but one of a noted tree, and is not noted.
@@ -93,7 +109,9 @@ fn none_beside(plain: &Plain<Score>, trees: &[Tree], noted: &Tree, last: &Score)
     (0..40).all(|word| {
         (0..41).all(|head| {
             let mut heads = noted.heads;
-            heads[word] = head;
+            if let Some(place) = heads.get_mut(word) {
+                *place = head;
+            }
             let weight = plain.weigh(&heads);
             weight.is_none_or(|weight| weight.at_most(last) || has(trees, &heads))
         })
@@ -104,7 +122,9 @@ fn none_beside(plain: &Plain<Score>, trees: &[Tree], noted: &Tree, last: &Score)
 fn none_left(plain: &Plain<Score>, trees: &[Tree]) -> bool {
     let last = trees.last();
     last.is_some_and(|last| {
-        trees.iter().all(|noted| none_beside(plain, trees, noted, &last.weight))
+        trees
+            .iter()
+            .all(|noted| none_beside(plain, trees, noted, &last.weight))
     })
 }
 
@@ -114,13 +134,25 @@ fn fifty(rt: &(impl Abort + AllocGlobal), many: bool, seed: u64) -> Result<(), F
     let mut plain = Plain::new(rt.alloc())?;
     plain.reset(40);
     let sheet = memory.open(40)?;
-    put_all(rt, &mut memory, &mut plain, &sheet, many, &mut Random { seed });
+    put_all(
+        rt,
+        &mut memory,
+        &mut plain,
+        &sheet,
+        many,
+        &mut Random { seed },
+    );
     let mut ranking = ranking::begin(sheet);
     let trees = take_fifty(rt, rt.alloc(), &mut memory, &mut ranking, false)?;
     let mut anew = ranking::begin(ranking::end(ranking));
     let same = take_fifty(rt, rt.alloc(), &mut memory, &mut anew, true)?;
     let trees = trees.as_slice();
-    assert!(rt; trees.iter().map(|tree| tree.heads).eq(same.iter().map(|tree| tree.heads)));
+    assert!(rt;
+        trees
+            .iter()
+            .map(|tree| tree.heads)
+            .eq(same.iter().map(|tree| tree.heads))
+    );
     assert!(rt; all_differ(trees));
     assert!(rt; never_rise(trees));
     assert!(rt; weigh_so(&plain, trees));

@@ -7,7 +7,10 @@ use std::test::Fail;
 use weight::{Cost, Mark, Score};
 
 // The rankings of a kind's random sheets are as they should be.
-fn all_rank<K: Drawn + Copy>(rt: &(impl Abort + AllocGlobal), trial: &mut Trial<K>) -> Result<(), Fail> {
+fn all_rank<K: Drawn + Copy>(
+    rt: &(impl Abort + AllocGlobal),
+    trial: &mut Trial<K>,
+) -> Result<(), Fail> {
     for words in 1..6 {
         for round in 0..36 {
             let sheet = trial.draw(rt, words, 1 + round % 6)?;

@@ -49,7 +49,11 @@ impl<K: Kind + Copy> Trees<K> {
     // Hands out the tree with these heads; whether a take may do so now, with this weight and count.
     pub fn hands_out(&mut self, heads: &[u8], taken: &Taken<K>) -> bool {
         let weight = &taken.weight;
-        let Some(place) = self.waiting.iter().position(|tree| tree.heads.starts_with(heads)) else {
+        let Some(place) = self
+            .waiting
+            .iter()
+            .position(|tree| tree.heads.starts_with(heads))
+        else {
             return false;
         };
         let none_above = self.waiting.iter().all(|tree| tree.weight.at_most(weight));

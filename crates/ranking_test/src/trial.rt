@@ -60,20 +60,37 @@ impl<K: Drawn + Copy> Trial<K> {
     }
 
     // Puts an arc with a random weight; the answer is as it should be.
-    fn put(&mut self, rt: &(impl Abort + AllocGlobal), sheet: &Sheet<K>, head: usize, dependent: usize) {
+    fn put(
+        &mut self,
+        rt: &(impl Abort + AllocGlobal),
+        sheet: &Sheet<K>,
+        head: usize,
+        dependent: usize,
+    ) {
         let weight = K::drawn(&mut self.random);
         let told = self.memory.put(sheet, head, dependent, weight);
         assert_eq!(rt; told, self.plain.put(head, dependent, weight));
     }
 
     // Strikes an arc; the answer is as it should be.
-    fn strike(&mut self, rt: &(impl Abort + AllocGlobal), sheet: &Sheet<K>, head: usize, dependent: usize) {
+    fn strike(
+        &mut self,
+        rt: &(impl Abort + AllocGlobal),
+        sheet: &Sheet<K>,
+        head: usize,
+        dependent: usize,
+    ) {
         let told = self.memory.strike(sheet, head, dependent);
         assert_eq!(rt; told, self.plain.strike(head, dependent));
     }
 
     // Opens a sheet with random arcs, so many of six.
-    pub fn draw(&mut self, rt: &(impl Abort + AllocGlobal), words: usize, dense: u8) -> Result<Sheet<K>, Fail> {
+    pub fn draw(
+        &mut self,
+        rt: &(impl Abort + AllocGlobal),
+        words: usize,
+        dense: u8,
+    ) -> Result<Sheet<K>, Fail> {
         self.plain.reset(words);
         let sheet = self.memory.open(words)?;
         for dependent in 1..6 {
@@ -129,7 +146,12 @@ impl<K: Drawn + Copy> Trial<K> {
     }
 
     // A take tells what it should, and writes no more than it should.
-    fn take(&mut self, rt: &(impl Abort + AllocGlobal), ranking: &mut Ranking<K>, trees: &mut Trees<K>) {
+    fn take(
+        &mut self,
+        rt: &(impl Abort + AllocGlobal),
+        ranking: &mut Ranking<K>,
+        trees: &mut Trees<K>,
+    ) {
         let words = self.plain.words;
         assert!(rt; words <= 8);
         let mut space = [99; 8];
