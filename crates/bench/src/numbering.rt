@@ -18,6 +18,7 @@ pub fn list(number: usize, words: u8) -> [u8; 5]
     let mut rest = number;
     let mut heads = [0; 5];
     for head in heads.iter_mut() {
+        // a remainder by at most 256 fits a byte
         *head = (rest % base) as u8;
         rest /= base;
     }

@@ -1,4 +1,5 @@
-// The calls that are lent their memory in a struct, over a slice for each part.
+// The calls that are lent their memory in a struct, over a slice for each part: no struct is made of parts of vectors that lie
+// behind a `&mut`.
 ghost use Rattle.std.specs.Prelude.{◌≡◌, ℕ, ◌+◌, length};
 ghost use Rattle.desk.specs.Lent.{parts};
 ghost use Rattle.ranking.specs.Calls.{Took};

@@ -21,6 +21,7 @@ impl Random {
             .seed
             .wrapping_mul(6364136223846793005)
             .wrapping_add(1442695040888963407);
+        // what is left fits: `try_from` would owe an answer for numbers that do not come
         (self.seed >> 33) as u32
     }
 
@@ -30,6 +31,7 @@ impl Random {
         ensures value { 0 < most → result ≡ drawn_from self.old.seed % most }
         ensures none { most ≡ 0 → result ≡ 0 }
     {
+        // a remainder by a byte fits a byte
         let drawn = self.draw();
         drawn.checked_rem(u32::from(most)).unwrap_or(0) as u8
     }

@@ -142,7 +142,7 @@ fn tree_text(
     Ok(text)
 }
 
-// How the ranking ends, where a refusal tells it.
+// How the ranking ends, where a refusal tells it: with a comma before it, and empty for nine refusals of twelve, so no `Display`.
 fn ending(why: Refusal) -> &'static str
     ensures { result.now ≡ ending_text why }
 {

@@ -22,6 +22,7 @@ pub struct Trees<K> {
 impl<K: Kind + Copy> Trees<K> {
     // All trees of a sheet, none of them handed out.
     pub fn new(heap: Global, plain: &Plain<K>) -> Result<Trees<K>, AllocError> {
+        // at most 5 fits a byte
         let words = plain.words.min(5) as u8;
         let mut waiting = Vec::new(heap);
         for number in 0..lists(words) {

@@ -9,6 +9,7 @@ use weight::{Cost, Kind, Mark, Score};
 
 // The next random number below `most`, drawn from 256.
 fn below(random: &mut Random, most: u8) -> u8 {
+    // a remainder by 256 fits a byte
     let drawn = (random.draw() % 256) as u8;
     drawn.checked_rem(most).unwrap_or(0)
 }
