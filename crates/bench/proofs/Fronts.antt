@@ -1,5 +1,5 @@
 -- The front of a space.
-use Rattle.std.proofs.Common.{◌≡◌, ℕ, List, ◌++◌, length, take, drop, ◌∙◌, ap}
+use Rattle.std.proofs.Common.{◌≡◌, ℕ, List, ◌++◌, length, take, ◌∙◌, ap}
 use Rattle.std.proofs.Math.Seq.{take-append_seam}
 
 -- the text that was written to the front

@@ -1,4 +1,4 @@
-use Rattle.std.proofs.Common.{ℕ, ◌+◌, ◌/◌, ◌%◌, ◌^◌, ◌∙◌, ap, arith, rules}
+use Rattle.std.proofs.Common.{ℕ, ◌+◌, ◌/◌, ◌%◌, ◌^◌, ◌∙◌, ap, rules}
 use Rattle.bench.proofs.Digits.{digits_next, rest_next}
 use Rattle.bench.proofs.numbering.list.Goals as goal
 

@@ -1,4 +1,4 @@
-use Rattle.std.proofs.Common.{◌≡◌, ◌≤◌, ◌↔◌, IsTrue, length, take, sym, ◌∙◌}
+use Rattle.std.proofs.Common.{◌≡◌, take, sym, ◌∙◌}
 use Rattle.weight.specs.Text.{text}
 use Rattle.bench.proofs.Fronts.{front_text}
 use Rattle.bench.proofs.texts.shows.Goals as goal

@@ -1,5 +1,4 @@
 use Rattle.std.proofs.Common.{◌≡◌, length, subst}
-use Rattle.desk.specs.Parts.{parts_of}
 use Rattle.desk.proofs.Lists.{same_parts, second_unchanged}
 use Rattle.ranking.specs.Calls.{lengths_of}
 use Rattle.ranking.specs.Memory.{Memory as Parts}
