@@ -1,19 +1,29 @@
 -- The memory that a run is lent, as lists
-use Rattle.std.specs.Prelude.{◌≡◌, length}
-use Rattle.ranking.specs.Memory.{Memory as Lists, memory_of}
+use Rattle.std.specs.Prelude.{◌≡◌, ℕ, List, length}
+use Rattle.ranking.specs.Memory.{Memory as Lists}
 use Rattle.run.specs.declared.Memory.{Memory}
-use Rattle.search.specs.Space.{SameParts}
+use Rattle.search.specs.declared.family.Node.{Node}
+use Rattle.sheet.specs.declared.Candidate.{Candidate}
+use Rattle.weight.specs.Layers.{Root}
+
+abbrev pub lists : {K : Type 0} → List K → List ℕ → List (Candidate K) → (nodes merges : List (Node K)) → List (Root K) → Lists K
+lists weights sets candidates nodes merges potentials = record { weights = weights; sets = sets; candidates = candidates; nodes = nodes; merges = merges; potentials = potentials }
 
 -- what the parts hold
 abbrev pub lists_of : {K : Type 0} → Memory K → Lists K
-lists_of memory = memory_of memory.weights.now memory.sets.now memory.candidates.now memory.working
+lists_of memory = lists memory.weights.now memory.sets.now memory.candidates.now memory.nodes.now memory.merges.now memory.potentials.now
 
 -- the parts are still the slices that were lent, each as long as it was
 pub record SameLoans {K : Type 0} (before after : Memory K) : Type 0 where
   pub weights : after.weights.ghost_name ≡ before.weights.ghost_name
   pub sets : after.sets.ghost_name ≡ before.sets.ghost_name
   pub candidates : after.candidates.ghost_name ≡ before.candidates.ghost_name
+  pub nodes : after.nodes.ghost_name ≡ before.nodes.ghost_name
+  pub merges : after.merges.ghost_name ≡ before.merges.ghost_name
+  pub potentials : after.potentials.ghost_name ≡ before.potentials.ghost_name
   pub weights_long : length after.weights.now ≡ length before.weights.now
   pub sets_long : length after.sets.now ≡ length before.sets.now
   pub candidates_long : length after.candidates.now ≡ length before.candidates.now
-  pub working : SameParts before.working after.working
+  pub nodes_long : length after.nodes.now ≡ length before.nodes.now
+  pub merges_long : length after.merges.now ≡ length before.merges.now
+  pub potentials_long : length after.potentials.now ≡ length before.potentials.now

@@ -2,32 +2,33 @@
 #![tactic(auto)]
 
 ghost use Rattle.std.specs.Prelude.{◌≡◌, List, length, IfOk};
-ghost use Rattle.ranking.specs.Calls.{lengths_of};
-ghost use Rattle.ranking.specs.Memory.{memory_of};
+ghost use Rattle.ranking.specs.Calls.{lengths_of, Took};
 ghost use Rattle.run.specs.Law.{RanksTruly};
-ghost use Rattle.run.specs.Loans.{lists_of, SameLoans};
+ghost use Rattle.run.specs.Loans.{lists, lists_of, SameLoans};
 ghost use Rattle.run.specs.Steps.{Ran, Stepped, run_check, told_by};
 ghost use Rattle.run.specs.declared.Call.TheVariants.{Take};
 ghost use Rattle.run.specs.declared.State.TheVariants.{Open, Ranked};
-ghost use Rattle.search.specs.Space.{SameParts};
-ghost use Rattle.search.specs.declared.working.Working.{Working};
+ghost use Rattle.search.specs.declared.family.Node.{Node};
 ghost use Rattle.sheet.specs.Arcs.{no_arcs};
 ghost use Rattle.sheet.specs.Calls.{Answered, Holds, open_check};
 ghost use Rattle.sheet.specs.declared.Candidate.{Candidate};
+ghost use Rattle.weight.specs.Layers.{Root};
 
 use ranking::{Ranking, Taken};
 use refusal::Refusal;
-use search::Working;
+use search::{Node, Working};
 use sheet::{Candidate, Sheet, Spare};
-use weight::Opens;
+use weight::{Opens, Root};
 
-// The memory that a run works in, lent together.
+// The memory that a run works in, lent together. Flat, since a caller learns nothing of slices that it lent in a struct in a struct.
 #[derive(Drop)]
 pub struct Memory<'a, K> {
     pub weights: &'a mut [K],
     pub sets: &'a mut [u64],
     pub candidates: &'a mut [Candidate<K>],
-    pub working: Working<'a, K>,
+    pub nodes: &'a mut [Node<K>],
+    pub merges: &'a mut [Node<K>],
+    pub potentials: &'a mut [Root<K>],
 }
 
 // A call on a sheet or on its ranking. A take says how many bytes of space it is given.
@@ -67,6 +68,27 @@ enum State<K> {
     Ranked(Ranking<K>),
 }
 
+// Takes a tree in memory whose working space comes part by part.
+fn take_in<K: Opens + Copy>(
+    ranking: &mut Ranking<K>,
+    weights: &[K],
+    sets: &mut [u64],
+    candidates: &mut [Candidate<K>],
+    nodes: &mut [Node<K>],
+    merges: &mut [Node<K>],
+    potentials: &mut [Root<K>],
+    space: &mut [u8],
+) -> Result<Taken<K>, Refusal>
+    ensures { Took K.Kind.worth K.Kind.ranges ranking.old ranking.new (lists weights.now sets.old candidates.old nodes.old merges.old potentials.old) (lists weights.now sets.new candidates.new nodes.new merges.new potentials.new) space.old space.new result }
+{
+    let mut working = Working {
+        nodes,
+        merges,
+        potentials,
+    };
+    ranking::take(ranking, weights, sets, candidates, &mut working, space)
+}
+
 // Takes a tree into so many bytes of space. The parts are lent one by one, since a part behind a `&mut Memory` is not lent as a `&` beside others.
 fn take_into<K: Opens + Copy>(
     ranking: &mut Ranking<K>,
@@ -74,19 +96,22 @@ fn take_into<K: Opens + Copy>(
     weights: &mut [K],
     sets: &mut [u64],
     candidates: &mut [Candidate<K>],
-    working: &mut Working<'_, K>,
+    nodes: &mut [Node<K>],
+    merges: &mut [Node<K>],
+    potentials: &mut [Root<K>],
 ) -> Answer<K>
-    ensures stepped { Stepped K.Kind.worth K.Kind.ranges (Ranked ranking.old) (Ranked ranking.new) (memory_of weights.old sets.old candidates.old working.old) (memory_of weights.new sets.new candidates.new working.new) (Take room) result }
-    ensures parts { SameParts working.old working.new }
+    ensures { Stepped K.Kind.worth K.Kind.ranges (Ranked ranking.old) (Ranked ranking.new) (lists weights.old sets.old candidates.old nodes.old merges.old potentials.old) (lists weights.new sets.new candidates.new nodes.new merges.new potentials.new) (Take room) result }
 {
     let mut heads = [0; 40];
     let lent = room.min(40);
-    match ranking::take(
+    match take_in(
         ranking,
         weights,
         sets,
         candidates,
-        working,
+        nodes,
+        merges,
+        potentials,
         &mut heads[..lent],
     ) {
         Ok(taken) => Answer::Handed(heads, taken),
@@ -113,7 +138,7 @@ fn on_sheet<K: Opens + Copy>(
     weights: &mut [K],
     sets: &mut [u64],
 ) -> (State<K>, Answer<K>)
-    ensures { (candidates : List (Candidate K)) (working : Working K) → Stepped K.Kind.worth K.Kind.ranges (Open sheet) result.0 (memory_of weights.old sets.old candidates working) (memory_of weights.new sets.new candidates working) call result.1 }
+    ensures { (candidates : List (Candidate K)) (nodes merges : List (Node K)) (potentials : List (Root K)) → Stepped K.Kind.worth K.Kind.ranges (Open sheet) result.0 (lists weights.old sets.old candidates nodes merges potentials) (lists weights.new sets.new candidates nodes merges potentials) call result.1 }
 {
     match call {
         Call::Put(head, dependent, weight) => {
@@ -149,7 +174,9 @@ fn on_ranking<K: Opens + Copy>(
                 memory.weights,
                 memory.sets,
                 memory.candidates,
-                &mut memory.working,
+                memory.nodes,
+                memory.merges,
+                memory.potentials,
             );
             (State::Ranked(ranking), answer)
         }
@@ -176,35 +203,30 @@ fn step<K: Opens + Copy>(
     }
 }
 
-// What a sheet asks for beside the parts that hold its arcs.
-fn spare<'a, K>(candidates: &'a [Candidate<K>], working: &'a Working<'_, K>) -> Spare<'a, K>
-    ensures candidates { result.candidates.now ≡ candidates.now }
-    ensures nodes { result.nodes.now ≡ working.now.nodes.now }
-    ensures merges { result.merges.now ≡ working.now.merges.now }
-    ensures potentials { result.potentials.now ≡ working.now.potentials.now }
-{
-    Spare {
-        candidates,
-        nodes: working.nodes,
-        merges: working.merges,
-        potentials: working.potentials,
-    }
-}
-
 // Opens a sheet; of the memory only the sets are written.
 fn opened<K: Opens + Copy>(
     words: usize,
     weights: &mut [K],
     sets: &mut [u64],
     candidates: &mut [Candidate<K>],
-    working: &mut Working<'_, K>,
+    nodes: &mut [Node<K>],
+    merges: &mut [Node<K>],
+    potentials: &mut [Root<K>],
 ) -> Result<Sheet<K>, Refusal>
-    ensures opened { Answered (open_check words (lengths_of (memory_of weights.old sets.old candidates.old working.old))) result (sets.new ≡ sets.old) (IfOk result (λ s. s.words ≡ words) × Holds words no_arcs weights.old weights.new sets.old sets.new) }
+    ensures opened { Answered (open_check words (lengths_of (lists weights.old sets.old candidates.old nodes.old merges.old potentials.old))) result (sets.new ≡ sets.old) (IfOk result (λ s. s.words ≡ words) × Holds words no_arcs weights.old weights.new sets.old sets.new) }
     ensures weights { weights.new ≡ weights.old }
     ensures candidates { candidates.new ≡ candidates.old }
-    ensures working { working.new ≡ working.old }
+    ensures nodes { nodes.new ≡ nodes.old }
+    ensures merges { merges.new ≡ merges.old }
+    ensures potentials { potentials.new ≡ potentials.old }
 {
-    sheet::open(words, weights, sets, spare(candidates, working))
+    let spare = Spare {
+        candidates,
+        nodes,
+        merges,
+        potentials,
+    };
+    sheet::open(words, weights, sets, spare)
 }
 
 // Opens a sheet of so many words, makes the calls in their order, and notes each with its answer.
@@ -225,7 +247,9 @@ pub fn run<K: Opens + Copy>(
         memory.weights,
         memory.sets,
         memory.candidates,
-        &mut memory.working,
+        memory.nodes,
+        memory.merges,
+        memory.potentials,
     )?;
     let mut state = State::Open(sheet);
     // by the place: of what is written over `turns.iter_mut()` nothing is known after the loop
