@@ -1,14 +1,17 @@
 // The calls that are lent their memory in a struct, over a slice for each part: no struct is made of parts of vectors that lie
 // behind a `&mut`.
 ghost use Rattle.std.specs.Prelude.{◌≡◌, ℕ, ◌+◌, length};
-ghost use Rattle.desk.specs.Lent.{parts};
-ghost use Rattle.ranking.specs.Calls.{Took};
+ghost use Rattle.ranking.specs.Calls.{Took, lengths_of};
+ghost use Rattle.run.specs.Loans.{lists};
+ghost use Rattle.run.specs.Steps.{Ran, run_check};
 ghost use Rattle.search.specs.Answer.{Searched, barring};
 ghost use Rattle.search.specs.Arcs.{allowed, weight_at};
 ghost use Rattle.search.specs.State.{Room};
+ghost use Rattle.sheet.specs.Calls.{Answered};
 
 use ranking::{Ranking, Taken, take};
 use refusal::Refusal;
+use run::{Call, Turn, run};
 use search::{Node, Working, best_tree, best_tree_barring};
 use sheet::Candidate;
 use weight::{Kind, Opens, Root};
@@ -68,7 +71,7 @@ pub(crate) fn take_in<K: Opens + Copy>(
     potentials: &mut [Root<K>],
     space: &mut [u8],
 ) -> Result<Taken<K>, Refusal>
-    ensures { Took K.Kind.worth K.Kind.ranges ranking.old ranking.new (parts weights.now sets.old candidates.old nodes.old merges.old potentials.old) (parts weights.now sets.new candidates.new nodes.new merges.new potentials.new) space.old space.new result }
+    ensures { Took K.Kind.worth K.Kind.ranges ranking.old ranking.new (lists weights.now sets.old candidates.old nodes.old merges.old potentials.old) (lists weights.now sets.new candidates.new nodes.new merges.new potentials.new) space.old space.new result }
 {
     let working = &mut Working {
         nodes,
@@ -76,4 +79,29 @@ pub(crate) fn take_in<K: Opens + Copy>(
         potentials,
     };
     take(ranking, weights, sets, candidates, working, space)
+}
+
+// Makes the calls on a fresh sheet of so many words.
+pub(crate) fn run_in<K: Opens + Copy>(
+    words: usize,
+    calls: &[Call<K>],
+    weights: &mut [K],
+    sets: &mut [u64],
+    candidates: &mut [Candidate<K>],
+    nodes: &mut [Node<K>],
+    merges: &mut [Node<K>],
+    potentials: &mut [Root<K>],
+    turns: &mut [Turn<K>],
+) -> Result<(), Refusal>
+    ensures { Answered (run_check words (lengths_of (lists weights.old sets.old candidates.old nodes.old merges.old potentials.old)) (length calls.now) (length turns.old)) result ((lists weights.new sets.new candidates.new nodes.new merges.new potentials.new ≡ lists weights.old sets.old candidates.old nodes.old merges.old potentials.old) × (turns.new ≡ turns.old)) (Ran K.Kind.worth K.Kind.ranges words calls.now (lists weights.old sets.old candidates.old nodes.old merges.old potentials.old) (lists weights.new sets.new candidates.new nodes.new merges.new potentials.new) turns.old turns.new) }
+{
+    let mut memory = run::Memory {
+        weights,
+        sets,
+        candidates,
+        nodes,
+        merges,
+        potentials,
+    };
+    run(words, calls, &mut memory, turns)
 }

@@ -1,12 +1,12 @@
 // The memory of a sheet, and the calls that work in it.
 ghost use Rattle.std.specs.Prelude.{◌≡◌, ℕ, ◌+◌, length, replicate, is_some, IfOk, Some, None, vec_len};
 
-use crate::lent::{search_barring_in, search_in, take_in};
+use crate::lent::{run_in, search_barring_in, search_in, take_in};
 use file::{FileFault, Recorded};
 use ranking::{Ranking, Taken};
 use refusal::Refusal;
 use run::{Call, Turn};
-use search::{Node, Working};
+use search::Node;
 use sheet::{Candidate, Sheet, Spare};
 use std::alloc::{AllocError, Global};
 use weight::{Kind, Opens, Root};
@@ -28,7 +28,6 @@ pub struct Memory<K> {
 impl<K: Opens + Copy> Memory<K> {
     ghost use Rattle.desk.specs.Parts.{parts_of};
     ghost use Rattle.ranking.specs.Calls.{Took, lengths_of};
-    ghost use Rattle.ranking.specs.Memory.{Memory as Parts};
     ghost use Rattle.run.specs.Steps.{Ran, run_check};
     ghost use Rattle.search.specs.Answer.{Searched, barring};
     ghost use Rattle.search.specs.Arcs.{allowed, weight_at};
@@ -151,30 +150,27 @@ impl<K: Opens + Copy> Memory<K> {
         )
     }
 
-    // Opens a sheet of so many words, makes the calls in their order, and notes each with its answer. The memory is used up.
-    pub fn run(self, words: usize, calls: &[Call<K>], turns: &mut [Turn<K>]) -> Result<(), Refusal>
-        ensures { (after : Parts K) × Answered (run_check words (lengths_of (parts_of self)) (length calls.now) (length turns.old)) result (turns.new ≡ turns.old) (Ran K.Kind.worth K.Kind.ranges words calls.now (parts_of self) after turns.old turns.new) }
+    // Opens a sheet of so many words, makes the calls in their order, and notes each with its answer.
+    pub fn run(
+        &mut self,
+        words: usize,
+        calls: &[Call<K>],
+        turns: &mut [Turn<K>],
+    ) -> Result<(), Refusal>
+        ensures { Answered (run_check words (lengths_of (parts_of self.old)) (length calls.now) (length turns.old)) result ((parts_of self.new ≡ parts_of self.old) × (turns.new ≡ turns.old)) (Ran K.Kind.worth K.Kind.ranges words calls.now (parts_of self.old) (parts_of self.new) turns.old turns.new) }
     {
         let Memory {
-            mut weights,
-            mut sets,
-            mut candidates,
-            mut nodes,
-            mut merges,
-            mut potentials,
+            weights,
+            sets,
+            candidates,
+            nodes,
+            merges,
+            potentials,
+            ..
         } = self;
-        let working = Working {
-            nodes: nodes.as_mut_slice(),
-            merges: merges.as_mut_slice(),
-            potentials: potentials.as_mut_slice(),
-        };
-        let mut lent = run::Memory {
-            weights: weights.as_mut_slice(),
-            sets: sets.as_mut_slice(),
-            candidates: candidates.as_mut_slice(),
-            working,
-        };
-        run::run(words, calls, &mut lent, turns)
+        run_in(
+            words, calls, weights, sets, candidates, nodes, merges, potentials, turns,
+        )
     }
 
     // Fills the working space with another weight.

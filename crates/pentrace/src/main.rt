@@ -227,7 +227,7 @@ fn run_lines(rt: &HostRuntime, words: usize, lines: &[Line]) -> io::Result<()> {
         answer: Answer::Misplaced,
     };
     let mut turns = vec![in rt.alloc(); blank; calls.len()]?;
-    let memory = Memory::new(rt.alloc())?;
+    let mut memory = Memory::new(rt.alloc())?;
     match memory.run(words, calls.as_slice(), turns.as_mut_slice()) {
         Ok(()) => {
             println!(rt; "open {words}: done")?;

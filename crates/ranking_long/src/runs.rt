@@ -119,9 +119,10 @@ fn runs_as_one_by_one(rt: HostRuntime) -> Result<(), Fail> {
     for _ in 0..50 {
         runs_so(&rt, &mut random)?;
     }
-    let many = Memory::<Score>::new(rt.alloc())?.run(41, &[], &mut []);
+    let mut memory = Memory::<Score>::new(rt.alloc())?;
+    let many = memory.run(41, &[], &mut []);
     assert_eq!(rt; many, Err(Refusal::WordCount));
-    let short = Memory::<Score>::new(rt.alloc())?.run(1, &[Call::Begin], &mut []);
+    let short = memory.run(1, &[Call::Begin], &mut []);
     assert_eq!(rt; short, Err(Refusal::ShortSpace));
     Ok(())
 }
