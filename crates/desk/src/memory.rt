@@ -173,7 +173,7 @@ impl<K: Opens + Copy> Memory<K> {
         )
     }
 
-    // Fills the working space with another weight.
+    // Fills the working space with another weight. (`fill` asks for a clone that cannot fail, of which nothing is known here.)
     pub fn litter(&mut self, weight: K)
         ensures { parts_of self.new ≡ record (parts_of self.old) { nodes = self.new.nodes.items; merges = self.new.merges.items; potentials = self.new.potentials.items } }
     {

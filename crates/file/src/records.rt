@@ -63,6 +63,7 @@ pub(crate) fn put_records<K: Recorded + Copy>(
     requires whole { record_place K.format.width count ≤ length file.now }
     ensures { Told (records_check K.format sheet.now.words file.now 0 count) result (KeptBeyond sheet.now.words weights.old weights.new sets.old sets.new) (Holds sheet.now.words (put_records K.format file.now 0 count (arcs_in sheet.now.words weights.old sets.old)) weights.old weights.new sets.old sets.new) }
 {
+    // by the number, which a fault tells beside the place
     for number in 0..count {
         put_record(sheet, weights, sets, file, number)?;
     }

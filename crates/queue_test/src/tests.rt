@@ -100,6 +100,7 @@ impl Both {
     }
 }
 
+// The next random number. The runs keep this generator, so that they stay the runs that they were.
 fn next(random: u32) -> u32 {
     random.wrapping_mul(1_664_525).wrapping_add(1_013_904_223)
 }

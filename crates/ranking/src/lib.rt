@@ -101,6 +101,7 @@ impl<K: Kind + Copy> Ranking<K> {
                 .ok_or(Refusal::NoTree)?;
             return Ok((first, 0));
         }
+        // the place behind those that wait is that of the tree taken last
         let current = candidates[50];
         let more = self.split(&current, candidates, weights, sets, working);
         let Ok(next) = queue::pop(candidates, more) else {

@@ -13,6 +13,7 @@ use std::alloc::{AllocError, Global};
 pub fn read_spaced(heap: Global, line: &[u8]) -> Result<Option<Vec<u8>>, AllocError>
     ensures { IfOk result (λ o. MatchOption o (SpellsNone line.now) (λ v. Spells line.now v.items)) }
 {
+    // byte by byte: `parse` takes leading zeros and signs, which are no such list
     let mut numbers = Vec::new(heap);
     let mut number = None;
     for byte in line {

@@ -121,6 +121,7 @@ impl<K: Kind + Copy> Graph<'_, K> {
     pub(crate) fn all_entries(&self) -> bool
         ensures { AllEntries self.now.words (stands_in self.now) K.Kind.ranges (weight_in K.Kind.worth self.now) result }
     {
+        // an `all` over a range that captures the graph is no plainer
         for to in 1..self.words + 1 {
             if !self.entries_into(to, self.open_heads(to)) {
                 return false;

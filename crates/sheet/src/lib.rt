@@ -122,7 +122,7 @@ impl<K> Sheet<K> {
     }
 }
 
-// A tree that waits to be handed out: the heaviest of its cell. The cell holds the trees with the same heads before the word
+// A tree that waits to be handed out: the heaviest of its cell, in a record of fixed size (a line has at most forty words). The cell holds the trees with the same heads before the word
 // `from`, and at that word a head that is not banned.
 #[derive(Clone, Copy)]
 pub struct Candidate<K> {
@@ -180,7 +180,8 @@ pub fn open<K: Opens + Copy>(
     Ok(sheet)
 }
 
-// Gives an arc a weight, in place of any that it had.
+// Gives an arc a weight, in place of any that it had. Weights and sets come by themselves, and each is lent to be written only
+// where the call writes it.
 pub fn put<K: Opens + Copy>(
     sheet: &Sheet<K>,
     weights: &mut [K],

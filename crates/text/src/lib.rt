@@ -13,7 +13,7 @@ pub trait Decimal: Copy {
     // its text as bytes: a minus where it is negative, and its digits
     ghost text: { Self → List ℕ };
 
-    // Whether it is negative, and the number that its digits tell.
+    // Whether it is negative, and the number that its digits tell: a signed number of 64 bits would not hold every `u64`.
     fn parts(self) -> (bool, u64)
         ensures text { with_sign result.0 result.1 ≡ text self }
         ensures bound { length (text self) ≤ 20 };
@@ -62,7 +62,7 @@ pub fn width<N: Decimal>(n: N) -> usize
     digit_count(size) + usize::from(minus)
 }
 
-// Writes the number from the place `at` on; returns the place behind it.
+// Writes the number from the place `at` on; returns the place behind it. The space stays the caller's, so it and the place are no struct.
 // Too short a space is refused and left as it was.
 pub fn put<N: Decimal>(n: N, space: &mut [u8], at: usize) -> Result<usize, Refusal>
     ensures { Placed (N.text n) space.old at result space.new }

@@ -15,7 +15,7 @@ fn head(heads: &[u8], word: u8) -> u8
 }
 
 // The first word that a chain of heads meets again, or none where every chain comes to the root.
-// Any byte may stand as a head.
+// Any byte may stand as a head. (A `loop` and no `for`, since it is left with a value.)
 pub fn find_cycle(heads: &[u8]) -> Option<usize>
     ensures told { ToldCycle heads.now result }
     ensures only { CycleFree heads.now → result ≡ None }

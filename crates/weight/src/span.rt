@@ -1,4 +1,5 @@
-// Where one place of an entry lies: from the least to the greatest, both included.
+// Where one place of an entry lies: from the least to the greatest, both included. Each span is a type, and no two numbers in the
+// weight's type: those would owe facts about sizes wherever a weight is copied.
 ghost use Rattle.std.specs.Prelude.{[], ◌∷◌, ℤ, pos, neg_ℤ};
 ghost use Rattle.std.specs.Int.Signed.{le_z_yes};
 ghost use Rattle.weight.specs.Range.{Ranged, limit};
