@@ -12,6 +12,7 @@ use weight::{Cost, Kind, Mark, Score};
 use word_set::holds;
 
 // Prints the line of a refused file.
+// It only writes standard output, of which no contract can speak, so it stands in the program.
 fn print_fault(rt: &HostRuntime, fault: FileFault) -> io::Result<()> {
     let mut space = [0; 64];
     let long = refused_line(fault.number(), fault.place(), &mut space).unwrap_or(0);

@@ -1,16 +1,10 @@
 -- The calls of a script.
-use Rattle.pentrace.specs.declared.Line.TheVariants.{Call, NoCall}
-use Rattle.pentrace.specs.declared.Line.{Line}
-use Rattle.run.specs.declared.Call.{Call as Made}
+use Rattle.run.specs.declared.Call.{Call}
 use Rattle.std.specs.List.{filter_map}
-use Rattle.std.specs.Prelude.{List, Some, None, Option}
+use Rattle.std.specs.Prelude.{List, Result, ℕ}
+use Rattle.std.specs.Result.{result_ok}
 use Rattle.weight.specs.Numbers.{Score}
 
--- the call of a line, if it is one
-abbrev pub call_of : Line → Option (Made Score)
-call_of (Call c) = Some c
-call_of (NoCall number) = None
-
--- the calls among the lines, in their order
-abbrev pub calls_in : List Line → List (Made Score)
-calls_in lines = filter_map call_of lines
+-- the calls among the lines, in their order; a line that is no call is its number
+abbrev pub calls_in : List (Result (Call Score) ℕ) → List (Call Score)
+calls_in lines = filter_map result_ok lines

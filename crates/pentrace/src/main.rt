@@ -4,7 +4,7 @@
 #![tactic(auto)]
 
 ghost use Rattle.pentrace.specs.Orders.{Said};
-ghost use Rattle.pentrace.specs.Script.{call_of, calls_in};
+ghost use Rattle.pentrace.specs.Script.{calls_in};
 ghost use Rattle.pentrace.specs.Texts.{CallText, ending_text, refusal_text, which_ranking};
 ghost use Rattle.std.specs.Prelude.{◌≡◌, [], ◌∷◌, ◌++◌, IfOk, vec_len, string_bytes, OnOk};
 
@@ -25,13 +25,8 @@ enum Order {
     Call(Call<Score>),
 }
 
-// A line of a script after an `open`.
-#[derive(Drop)]
-enum Line {
-    Call(Call<Score>),
-    // a line that is no call, by its number in the script
-    NoCall(usize),
-}
+// A line of a script after an `open`: a call, or the number of a line that is no call.
+type Line = Result<Call<Score>, usize>;
 
 // The part of a script from an `open` up to the next; none is open before the first.
 #[derive(Drop)]
@@ -81,23 +76,11 @@ fn read_order(line: &[u8]) -> Option<Order> {
     order_of(name, first, second, third)
 }
 
-impl Line {
-    // The call of the line, if it is one.
-    fn call(&self) -> Option<Call<Score>>
-        ensures { result ≡ call_of self.now }
-    {
-        match self {
-            Line::Call(call) => Some(*call),
-            Line::NoCall(_) => None,
-        }
-    }
-}
-
 // The calls among the lines, in their order.
 fn calls_in(heap: Global, lines: &[Line]) -> Result<Vec<Call<Score>>, AllocError>
     ensures { IfOk result (λ v. v.items ≡ calls_in lines.now) }
 {
-    lines.iter().filter_map(Line::call).collect(heap)
+    lines.iter().filter_map(|line| line.ok()).collect(heap)
 }
 
 // A weight in decimal.
@@ -212,8 +195,8 @@ fn print_lines(
     let mut turns = turns.iter();
     for line in lines {
         match line {
-            Line::NoCall(number) => println!(rt; "line {number}: no call")?,
-            Line::Call(call) => print_call(rt, words, call, turns.next())?,
+            Err(number) => println!(rt; "line {number}: no call")?,
+            Ok(call) => print_call(rt, words, call, turns.next())?,
         }
     }
     Ok(())
@@ -265,8 +248,8 @@ fn main(rt: HostRuntime) -> io::Result<()> {
                     lines: Vec::new(rt.alloc()),
                 };
             }
-            Some(Order::Call(call)) => part.lines.push(Line::Call(call))?,
-            None => part.lines.push(Line::NoCall(number))?,
+            Some(Order::Call(call)) => part.lines.push(Ok(call))?,
+            None => part.lines.push(Err(number))?,
         }
     }
     run_part(&rt, &part)

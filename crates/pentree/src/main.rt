@@ -45,6 +45,7 @@ fn print_tree(rt: &HostRuntime, weight: Score, heads: &[u8]) -> io::Result<()> {
 }
 
 // Prints a text of bytes under a name.
+// It only writes standard output, of which no contract can speak, so it stands in the program.
 fn print_text(rt: &HostRuntime, name: &str, bytes: &[u8]) -> io::Result<()> {
     let text = std::str::from_utf8(bytes).unwrap_or("");
     println!(rt; "{name}: {text}")

@@ -41,6 +41,7 @@ fn rank_lines(lines: u8, takes: u8, memory: &mut Memory<Score>) -> Result<usize,
 }
 
 // The first two numbers of the input.
+// It only reads standard input, of which no contract can speak, so it stands in the program.
 fn ask(rt: &HostRuntime) -> io::Result<(u8, u8)> {
     for line in BufReader::new(rt.alloc(), rt.stdin())?.split(rt.alloc(), b'\n') {
         let line = line?;

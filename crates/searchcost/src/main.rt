@@ -31,6 +31,7 @@ fn run(searches: u8, memory: &mut Memory<Score>) -> usize {
 }
 
 // The number on the first line of the input.
+// It only reads standard input, of which no contract can speak, so it stands in the program.
 fn ask(rt: &HostRuntime) -> io::Result<u8> {
     for line in BufReader::new(rt.alloc(), rt.stdin())?.split(rt.alloc(), b'\n') {
         let line = line?;
