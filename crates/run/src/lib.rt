@@ -89,7 +89,8 @@ fn take_in<K: Opens + Copy>(
     ranking::take(ranking, weights, sets, candidates, &mut working, space)
 }
 
-// Takes a tree into so many bytes of space. The parts are lent one by one, since a part behind a `&mut Memory` is not lent as a `&` beside others.
+// Takes a tree into so many bytes of space. The parts are lent one by one, since a part behind a `&mut Memory` is not lent as a
+// `&` beside others.
 fn take_into<K: Opens + Copy>(
     ranking: &mut Ranking<K>,
     room: usize,

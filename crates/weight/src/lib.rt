@@ -21,7 +21,8 @@ pub use single::{Cost, Score, Single};
 pub use span::{CostSpan, MarkSpan, RootSpan, ScoreSpan, Span};
 pub use sums::{place_difference, place_sum};
 
-// A kind of weight (no `Ord` and no `Display`: the order is that of worths, and a text is written into a lent space). Its five rules are nothing, sum with difference, comparison, entry and showing.
+// A kind of weight: its five rules are nothing, sum with difference, comparison, entry and showing. (No `Ord` and no `Display`:
+// the order is that of worths, and a text is written into a lent space.)
 pub trait Kind {
     // how many places a weight has
     ghost places: { ℕ };
