@@ -1,16 +1,10 @@
-use Rattle.std.proofs.Common.{◌+◌, ◌++◌, drop, sym, refl, ap, ◌∙◌, arith, length-drop, length-take, rules}
+use Rattle.std.proofs.Common.{◌+◌, ◌++◌, drop, sym, ap, ◌∙◌, arith, length-drop, length-take}
 use Rattle.std.specs.Fmt.{signed_decimal}
 use Rattle.std.proofs.lemmas.Result.{err_from_is_err_and}
 use Rattle.weight.specs.Worth.{Worth}
 use Rattle.weight.specs.Text.{text}
 use Rattle.weight.proofs.Places.{lengths, part_same, front_put}
 use Rattle.weight.proofs.showing.show_front.Goals as goal
-
-pub returns-then-behind-space : goal.returns-then-behind-space
-returns-then-behind-space g c =
-    let a : Worth = g.K.Kind.worth c.args.rest.now in
-    let l = lengths c.args.front a c.width-behind.result g.K.Kind.places c.ranges.front c.width-behind.ensures.value g.K.Kind.some (g.K.Kind.sized c.args.rest.now) in
-    (refl, omega (arith, l.whole, c.if-behind-space.true), search rules)
 
 -- the rest did not fit, and nothing was written yet
 pub returns-in_err-n : goal.returns-in_err-n
