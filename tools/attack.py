@@ -1,0 +1,234 @@
+#!/usr/bin/env python3
+"""Tries planted bugs, one at a time, and tells what refuses each.
+
+usage: python3 tools/attack.py [NAME..]          at the top of the repository, with the crates named proved by `rt check`
+       python3 tools/attack.py --seed S NAME..   plants twelve simple bugs by chance in each crate, and lists those that nothing refuses
+       python3 tools/attack.py --table           writes the tables of docs/ATTACKS.md anew, from attacks/*.txt
+
+attacks/NAME.txt holds the bugs of a crate, parted by empty lines. A bug is
+
+    bug: what goes wrong, in words, with the function's name
+    file: src/lib.rt
+    old: a text that stands once in that file
+    new: what the bug puts in its place
+    by: what refuses it
+
+with more pairs of old and new where one does not do. `by` is written by this script: the function and the clause that is not
+proved, or the test or stored output that differs. A bug that nothing refuses has `by: NOTHING`. A line `kept: NAME` says that the
+bug is the must-fail edit NAME, and `mended: ..` what was strengthened for it; both are written by hand. Lines that begin with `# ` tell
+what was tried by chance.
+"""
+import glob
+import os
+import random
+import re
+import subprocess
+import sys
+
+
+def read_bugs(path):
+    """The bugs of a file: each a list of lines."""
+    text = open(path).read().strip('\n')
+    blocks = [[line for line in block.split('\n') if not line.startswith('# ')] for block in re.split(r'\n\s*\n', text)]
+    return [block for block in blocks if block and block[0].startswith('bug: ')]
+
+
+def line_of(bug, word):
+    """What stands behind the first line of a bug that begins with the word."""
+    return next((line[len(word) + 2:] for line in bug if line.startswith(word + ': ')), None)
+
+
+def file_of(crate, place):
+    """The path of a place such as src/lib.rt, in a crate."""
+    return f'crates/{crate}/{place}'
+
+
+def function_at(crate, place, number):
+    """The function that stands at a line of a file of the crate, told by the nearest `fn` at or above it."""
+    path = file_of(crate, place)
+    if not os.path.exists(path):
+        return place
+    lines = open(path).read().split('\n')
+    for line in reversed(lines[:number]):
+        found = re.search(r'\bfn (\w+)', line)
+        if found:
+            return found.group(1)
+    return place
+
+
+def refused_by(crate, note):
+    """The function and clause that the prover's first error names."""
+    found = re.search(r'((?:src|proofs|specs)/[\w/]+\.(?:rt|antt)):(\d+):\d+: (.*)', note)
+    if not found:
+        return note.strip()
+    place, number, why = found.groups()
+    clause = re.search(r'`([^`]+)`\)', why) or re.search(r'`([^`]+)`', why)
+    what = clause.group(1) if clause else why
+    where = function_at(crate, place, int(number)) if place.startswith('src') else place
+    kind = '' if 'ensures' in why else ' (' + why.split(';')[0].split('(`')[0].replace('it is not proved that ', '').strip()[:70] + ')'
+    return f'{where}: {what}{kind}'
+
+
+def try_all(crate, bugs):
+    """Tries the bugs as must-fail edits, and gives what rt says of each."""
+    folder = file_of(crate, 'must-fail')
+    os.makedirs(folder, exist_ok=True)
+    names = []
+    try:
+        for i, bug in enumerate(bugs):
+            path = f'{folder}/attack{i:03}.edit'
+            names.append(path)
+            kept = [line for line in bug if re.match(r'(file|old|new): ', line) or line == 'new:']
+            open(path, 'w').write('\n'.join(kept) + '\n')
+        ran = subprocess.run(['rt', 'must-fail', crate], capture_output=True, text=True)
+    finally:
+        for path in names:
+            if os.path.exists(path):
+                os.remove(path)
+        if not os.listdir(folder):
+            os.rmdir(folder)
+    said = {}
+    for line in (ran.stdout + ran.stderr).split('\n'):
+        found = re.search(r'must-fail %s/attack(\d+)\.edit: (.*)' % crate, line)
+        if found:
+            said.setdefault(int(found.group(1)), found.group(2))
+    return said, ran.stdout + ran.stderr
+
+
+def run_with(crate, bug):
+    """Runs a crate's tests, and its program on its stored input, with a bug in it: what differs, or none."""
+    path = file_of(crate, line_of(bug, 'file'))
+    before = open(path).read()
+    text = before
+    old = None
+    for line in bug:
+        if line.startswith('old: '):
+            old = line[5:]
+        elif line.startswith('new:') and old is not None:
+            text = text.replace(old, line[5:], 1)
+            old = None
+    folder = f'crates/{crate}'
+    try:
+        open(path, 'w').write(text)
+        if '#[test]' in before or any('#[test]' in open(p).read() for p in glob.glob(f'{folder}/src/*.rt')):
+            ran = subprocess.run(['rt', 'try', '--test'], cwd=folder, capture_output=True, text=True)
+            if ran.returncode:
+                said = re.findall(r'test (\w+) \.\.\. FAILED|(\w+) FAILED|test (\S+)[^\n]*fail', ran.stdout + ran.stderr)
+                names = [next(n for n in found if n) for found in said]
+                return 'test ' + (', '.join(dict.fromkeys(names)) or (ran.stdout + ran.stderr).strip().split('\n')[-1])
+        if os.path.exists(f'{folder}/stdin'):
+            given = open(f'{folder}/stdin', 'rb').read()
+            ran = subprocess.run(['rt', 'try'], cwd=folder, input=given, capture_output=True)
+            want = open(f'{folder}/stdout', 'rb').read() if os.path.exists(f'{folder}/stdout') else b''
+            if ran.stdout != want:
+                return 'the stored output'
+    finally:
+        open(path, 'w').write(before)
+    return None
+
+
+def attack(crate):
+    path = f'attacks/{crate}.txt'
+    bugs = read_bugs(path)
+    said, log = try_all(crate, bugs)
+    notes = [line for line in open(path).read().split('\n') if line.startswith('# ')]
+    out = ['\n'.join(notes)] if notes else []
+    for i, bug in enumerate(bugs):
+        note = said.get(i)
+        if note is None:
+            by = 'NOT TRIED'
+        elif note.startswith('refused'):
+            by = refused_by(crate, note.split('note:')[-1] if 'note:' in note else note)
+        elif 'BAD' in note:
+            by = note
+        else:
+            by = run_with(crate, bug) or 'NOTHING'
+        print(f'{crate}: {line_of(bug, "bug")}: {by}', flush=True)
+        rest = [line for line in bug if not line.startswith('by: ')]
+        at = next((j for j, line in enumerate(rest) if re.match(r'kept: |mended: ', line)), len(rest))
+        out.append('\n'.join(rest[:at] + ['by: ' + by] + rest[at:]))
+    open(path, 'w').write('\n\n'.join(out) + '\n')
+    if any(note is None for note in map(said.get, range(len(bugs)))):
+        print(log[-2000:])
+
+
+# Simple bugs: a pattern in a line of code, and what takes its place.
+SWAPS = [(r' < ', ' <= '), (r' <= ', ' < '), (r' > ', ' >= '), (r' >= ', ' > '), (r' == ', ' != '), (r' != ', ' == '), (r' && ', ' || '), (r' \|\| ', ' && '),
+         (r' \+ ', ' - '), (r' - ', ' + '), (r' \+= ', ' -= '), (r'\btrue\b', 'false'), (r'\bfalse\b', 'true'), (r' & !', ' & '), (r' \| ', ' & '), (r' & ', ' | '),
+         (r' << ', ' >> '), (r'\.\.=', '..'), (r'\bbreak\b', 'continue'), (r'\bmin\b', 'max'), (r'\bmax\b', 'min'), (r'if (?!let)', 'if !'), (r'Greater', 'Less'),
+         (r'Less', 'Greater'), (r'\.and_then', '.or_else'), (r'\.all\(', '.any('), (r'\.any\(', '.all('), (r'\bSome\((\w+)\) =>', r'Some(\1) if false =>')]
+
+
+def simple_bugs(crate):
+    """The simple bugs of a crate: each a file, a line that stands once in it, and what to put in its place."""
+    bugs = []
+    for path in sorted(glob.glob(f'crates/{crate}/src/**/*.rt', recursive=True)):
+        text = open(path).read().split('#[cfg(test)]')[0]
+        lines = text.split('\n')
+        for line in lines:
+            bare = line.split('//')[0]
+            if not bare.strip() or lines.count(line) > 1 or re.match(r'\s*(ensures|requires|ghost|pub |use |fn |impl|invariant|decreases|#)', bare):
+                continue
+            found = [(m.start(), m.end(), m.expand(new)) for swap, new in SWAPS for m in re.finditer(swap, bare)]
+            for m in re.finditer(r'(?<![\w.])(\d+)(?![\w.])', bare):
+                found += [(m.start(), m.end(), str(v)) for v in (int(m[1]) + 1, int(m[1]) - 1) if v >= 0]
+            found += [(m.start(), m.end(), f'({m[2]}, {m[1]})') for m in re.finditer(r'\(([a-z_][\w.]*), ([a-z_][\w.]*)\)', bare)]
+            if re.match(r'\s*[\w.\[\]*]+(\(.*\))? ?([-+|&]?= .*)?;$', bare) and not bare.strip().startswith(('let', 'return')):
+                found.append((0, len(bare), ''))
+            place = os.path.relpath(path, f'crates/{crate}')
+            bugs += [(place, line, line[:a] + new + line[b:]) for a, b, new in found]
+    return bugs
+
+
+def by_chance(crate, seed):
+    """Tries twelve simple bugs of a crate, drawn by chance, and prints those that nothing refuses."""
+    drawn = simple_bugs(crate)
+    random.Random(seed).shuffle(drawn)
+    bugs = [[f'bug: {old.strip()} -> {new.strip()}', f'file: {place}', f'old: {old}', f'new: {new}'] for place, old, new in drawn[:12]]
+    said, _ = try_all(crate, bugs)
+    refused = other = 0
+    for i, bug in enumerate(bugs):
+        note = said.get(i, 'NOT TRIED')
+        if note.startswith('refused'):
+            refused += 1
+        elif 'BAD' in note or note == 'NOT TRIED':
+            other += 1
+        else:
+            print(f'{crate} {bug[1][6:]}: {bug[0][5:]}: {run_with(crate, bug) or "NOTHING"}', flush=True)
+    print(f'{crate}, seed {seed}: {len(drawn)} bugs can be planted, {len(bugs)} tried, {refused} refused by the check, {other} do not build', flush=True)
+
+
+def cell(text):
+    return (text or '').replace('|', '\\|')
+
+
+def table():
+    path = 'docs/ATTACKS.md'
+    mark = '<!-- tables -->\n'
+    head = open(path).read().split(mark)[0]
+    crates = [line.split(':')[0].split()[0] for line in open('crates.txt') if line.strip() and not line.startswith('#')]
+    parts = []
+    for crate in crates:
+        if not os.path.exists(f'attacks/{crate}.txt'):
+            continue
+        bugs = read_bugs(f'attacks/{crate}.txt')
+        notes = [line[2:] for line in open(f'attacks/{crate}.txt').read().split('\n') if line.startswith('# ')]
+        rows = [f'### `{crate}` ({len(bugs)})', ''] + [note + '\n' for note in notes] + ['| bug | refused by |', '|---|---|']
+        for bug in bugs:
+            by = line_of(bug, 'by') or 'NOT TRIED'
+            mended = line_of(bug, 'mended')
+            kept = line_of(bug, 'kept')
+            also = (f'; strengthened: {mended}' if mended else '') + (f'; kept as `{kept}`' if kept else '')
+            rows.append(f'| {cell(line_of(bug, "bug"))} | {cell(by + also)} |')
+        parts.append('\n'.join(rows))
+    open(path, 'w').write(head + mark + '\n' + '\n\n'.join(parts) + '\n')
+
+
+if sys.argv[1:] == ['--table']:
+    table()
+elif sys.argv[1:2] == ['--seed']:
+    for name in sys.argv[3:]:
+        by_chance(name, int(sys.argv[2]))
+else:
+    for name in sys.argv[1:] or sorted(os.path.basename(p)[:-4] for p in glob.glob('attacks/*.txt')):
+        attack(name)
