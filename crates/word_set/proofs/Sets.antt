@@ -6,7 +6,7 @@ use mir.Syntax.{w64}
 use Rattle.std.specs.Int.{bit_at}
 use Rattle.std.proofs.lemmas.Nat.Bits.{bit_at-zero, shr_and_one, bit_at_and, bit_at_or, bit_at_xor, bit_at-pow_same, bit_at-pow_other, bit_at_ones, bit_at_ones_above, bit_at_above, bit_at-lt, bit_at-trailing_zeros, bit_at_cat_low, same_from_bits}
 use Rattle.std.proofs.Math.Nat.{add-mul, div-add-mod}
-use Rattle.std.proofs.lemmas.Nat.{pow_pos, shr_high}
+use Rattle.std.proofs.lemmas.Nat.{one_shl, pow_pos, shr_high}
 use Rattle.std.proofs.lemmas.Bool.{cases_lt, cases_eq, eq-eqb, ne_eqb, le-leb, lt-leb}
 use Rattle.std.proofs.lemmas.Bool.Decides.{nat_tests}
 use Rattle.word_set.specs.Bits.{in_set}
@@ -117,8 +117,11 @@ module _ (s : ℕ) (some : 0 < s) (few : s < 2 ^ 64) where
 pub in_set_beyond : (s w : ℕ) → s < 2 ^ 64 → 64 ≤ w → in_set s w ≡ false
 in_set_beyond s w few far = by_bit s w 0 (bit_at_above s 64 w few far)
 
-pub only_near : (w v : ℕ) → w < 64 → in_set (2 ^ w) v ≡ (eqb v w && ltb w 64)
-only_near w v near = in_set_one w v ∙ grind (arith, nat_tests)
+pub only_small : (w v : ℕ) → w < 64 → in_set (1 * 2 ^ w % 2 ^ 64) v ≡ eqb v w
+only_small w v near = rw (one_shl w 64 near) (in_set_one w v)
+
+pub only_near : (w v : ℕ) → w < 64 → in_set (1 * 2 ^ w % 2 ^ 64) v ≡ (eqb v w && ltb w 64)
+only_near w v near = only_small w v near ∙ grind (arith, nat_tests)
 
 pub only_far : (w v : ℕ) → 64 ≤ w → in_set 0 v ≡ (eqb v w && ltb w 64)
 only_far w v far = in_set_empty v ∙ grind (arith, nat_tests)

@@ -8,6 +8,7 @@ ghost use Rattle.word_set.specs.Bits.{in_set};
 ghost use Rattle.word_set.specs.Words.{NextWord};
 
 // Whether the word is in the set.
+#[tactic(auto, using(crate::proofs::Sets::bit_is, crate::proofs::Sets::in_set_beyond))]
 pub fn holds(set: u64, word: usize) -> bool
     ensures { result ≡ in_set set word }
 {
@@ -15,6 +16,7 @@ pub fn holds(set: u64, word: usize) -> bool
 }
 
 // The set of one word; no word above 63 is in a set.
+#[tactic(auto, using(crate::proofs::Sets::only_small, crate::proofs::Sets::only_near, crate::proofs::Sets::only_far))]
 pub fn only(word: usize) -> u64
     ensures words { (v : ℕ) → in_set result v ≡ (v == word && nat_lt word 64) }
     ensures small { word < 64 → (v : ℕ) → in_set result v ≡ (v == word) }
@@ -23,6 +25,7 @@ pub fn only(word: usize) -> u64
 }
 
 // The words of either set.
+#[tactic(auto, using(crate::proofs::Sets::in_set_or))]
 pub fn either(a: u64, b: u64) -> u64
     ensures { (v : ℕ) → in_set result v ≡ (in_set a v || in_set b v) }
 {
@@ -30,6 +33,7 @@ pub fn either(a: u64, b: u64) -> u64
 }
 
 // The words of both sets.
+#[tactic(auto, using(crate::proofs::Sets::in_set_and))]
 pub fn both(a: u64, b: u64) -> u64
     ensures { (v : ℕ) → in_set result v ≡ (in_set a v && in_set b v) }
 {
@@ -37,6 +41,7 @@ pub fn both(a: u64, b: u64) -> u64
 }
 
 // The words of the first set that are not in the second.
+#[tactic(auto, using(crate::proofs::Sets::in_set_less))]
 pub fn without(a: u64, b: u64) -> u64
     ensures { (v : ℕ) → in_set result v ≡ (in_set a v && not (in_set b v)) }
 {
@@ -56,6 +61,7 @@ impl Iterator for Words {
 
     ghost remaining = { λ s. at_most s.left };
 
+    #[tactic(auto, using(crate::proofs::Sets::in_set_empty, crate::proofs::Sets::takes, std::proofs::lemmas::Nat::and_le_r))]
     fn next(&mut self) -> Option<usize> {
         if self.left == 0 {
             return None;
