@@ -1,7 +1,7 @@
 -- Lines as pieces, one after another.
-use Rattle.std.proofs.Common.{◌≡◌, ℕ, ◌+◌, ◌<◌, ◌≤◌, List, [], ◌∷◌, ◌++◌, length, take, drop, set, Some, None, Ok, Err, decimal, Option, Result, sym, ap, ◌∙◌, append_assoc, arith, length-append, length-drop, length-set, length-take, length-take-le, MatchOption}
+use Rattle.std.proofs.Common.{◌≡◌, ℕ, ◌+◌, ◌<◌, ◌≤◌, List, [], ◌∷◌, ◌++◌, length, take, drop, set, Some, None, Ok, Err, decimal, codes, Option, Result, sym, ap, ◌∙◌, append_assoc, arith, length-append, length-drop, length-set, length-take, length-take-le, MatchOption}
 use Rattle.lines.proofs.Parts.{part_kept, part_shown}
-use Rattle.lines.specs.Lines.{before_weight, behind_weight, tree_text, refused_word, at_word, refused_text}
+use Rattle.lines.specs.Lines.{before_weight, behind_weight, tree_text, refused_text}
 use Rattle.refusal.specs.declared.Refusal.TheVariants.{ShortSpace}
 use Rattle.refusal.specs.declared.Refusal.{Refusal}
 use Rattle.std.proofs.lemmas.List.{drop_at}
@@ -34,21 +34,21 @@ placed_kept t s after at k p h = ap length (placed_ok t s at k after p).1 ∙ le
 
 -- the pieces of the line of a refused file
 pub refused_placed : (number place : ℕ) (s s1 s2 s3 s4 after : List ℕ) (k1 k2 k3 k4 : ℕ) (r : Result ℕ Refusal) → length (refused_text number place) ≤ length s
-    → Placed refused_word s 0 (Ok k1) s1 → Placed (decimal number) s1 k1 (Ok k2) s2 → Placed at_word s2 k2 (Ok k3) s3 → Placed (decimal place) s3 k3 (Ok k4) s4 → Placed (10 ∷ []) s4 k4 r after
+    → Placed (codes "refused ") s 0 (Ok k1) s1 → Placed (decimal number) s1 k1 (Ok k2) s2 → Placed (codes " at ") s2 k2 (Ok k3) s3 → Placed (decimal place) s3 k3 (Ok k4) s4 → Placed (10 ∷ []) s4 k4 r after
     → Placed (refused_text number place) s 0 r after
 refused_placed number place s s1 s2 s3 s4 after k1 k2 k3 k4 r h p1 p2 p3 p4 p5 =
-    let e1 = (placed_ok refused_word s 0 k1 s1 p1).0 in
+    let e1 = (placed_ok (codes "refused ") s 0 k1 s1 p1).0 in
     let e2 = (placed_ok (decimal number) s1 k1 k2 s2 p2).0 in
-    let e3 = (placed_ok at_word s2 k2 k3 s3 p3).0 in
+    let e3 = (placed_ok (codes " at ") s2 k2 k3 s3 p3).0 in
     let l4 = length-append (decimal place) (10 ∷ []) in
-    let l3 = length-append at_word (decimal place ++ (10 ∷ [])) in
-    let l2 = length-append (decimal number) (at_word ++ (decimal place ++ (10 ∷ []))) in
-    let l1 = placed_kept refused_word s s1 0 k1 p1 (omega arith) in
+    let l3 = length-append (codes " at ") (decimal place ++ (10 ∷ [])) in
+    let l2 = length-append (decimal number) (codes " at " ++ (decimal place ++ (10 ∷ []))) in
+    let l1 = placed_kept (codes "refused ") s s1 0 k1 p1 (omega arith) in
     let m2 = placed_kept (decimal number) s1 s2 k1 k2 p2 (omega arith) in
-    let m3 = placed_kept at_word s2 s3 k2 k3 p3 (omega arith) in
-    placed_then refused_word (decimal number ++ (at_word ++ (decimal place ++ (10 ∷ [])))) s s1 after 0 k1 r (omega arith) p1
-    (placed_then (decimal number) (at_word ++ (decimal place ++ (10 ∷ []))) s1 s2 after k1 k2 r (omega arith) p2
-    (placed_then at_word (decimal place ++ (10 ∷ [])) s2 s3 after k2 k3 r (omega arith) p3
+    let m3 = placed_kept (codes " at ") s2 s3 k2 k3 p3 (omega arith) in
+    placed_then (codes "refused ") (decimal number ++ (codes " at " ++ (decimal place ++ (10 ∷ [])))) s s1 after 0 k1 r (omega arith) p1
+    (placed_then (decimal number) (codes " at " ++ (decimal place ++ (10 ∷ []))) s1 s2 after k1 k2 r (omega arith) p2
+    (placed_then (codes " at ") (decimal place ++ (10 ∷ [])) s2 s3 after k2 k3 r (omega arith) p3
     (placed_then (decimal place) (10 ∷ []) s3 s4 after k3 k4 r (omega arith) p4 p5)))
 
 -- a text just before another
@@ -95,7 +95,7 @@ length_tree number a heads =
 
 pub length_refused : (number place : ℕ) → length (refused_text number place) ≡ length (decimal number) + length (decimal place) + 13
 length_refused number place =
-    let first = length-append (decimal number) ((32 ∷ 97 ∷ 116 ∷ 32 ∷ []) ++ (decimal place ++ (10 ∷ []))) in
+    let first = length-append (decimal number) (codes " at " ++ (decimal place ++ (10 ∷ []))) in
     let second = length-append (decimal place) (10 ∷ []) in
     omega arith
 

@@ -1,5 +1,5 @@
 -- The lines of a ranking, as lists of bytes. 9 is the TAB, 10 the line's end, 32 the blank.
-use Rattle.std.specs.Prelude.{◌≡◌, ℕ, ◌^◌, ◌<◌, cond, List, [], ◌∷◌, ◌++◌, decimal, ◌==◌}
+use Rattle.std.specs.Prelude.{◌≡◌, ℕ, ◌^◌, ◌<◌, cond, codes, List, [], ◌∷◌, ◌++◌, decimal, ◌==◌}
 use Rattle.lines.specs.declared.Last.TheVariants.{NoTree, NoMore, Fifty}
 use Rattle.lines.specs.declared.Last.{Last}
 use Rattle.text.specs.Spaced.{spaced}
@@ -19,19 +19,13 @@ tree_text number weight heads = before_weight number ++ (text weight ++ behind_w
 
 -- why the ranking ends: `no tree`, `no more`, `fifty`
 abbrev pub last_text : Last → List ℕ
-last_text NoTree = 110 ∷ 111 ∷ 32 ∷ 116 ∷ 114 ∷ 101 ∷ 101 ∷ 10 ∷ []
-last_text NoMore = 110 ∷ 111 ∷ 32 ∷ 109 ∷ 111 ∷ 114 ∷ 101 ∷ 10 ∷ []
-last_text Fifty = 102 ∷ 105 ∷ 102 ∷ 116 ∷ 121 ∷ 10 ∷ []
+last_text NoTree = codes "no tree\n"
+last_text NoMore = codes "no more\n"
+last_text Fifty = codes "fifty\n"
 
 -- a refused file: `refused `, the refusal's number, ` at `, the place of the byte at fault
-abbrev pub refused_word : List ℕ
-refused_word = 114 ∷ 101 ∷ 102 ∷ 117 ∷ 115 ∷ 101 ∷ 100 ∷ 32 ∷ []
-
-abbrev pub at_word : List ℕ
-at_word = 32 ∷ 97 ∷ 116 ∷ 32 ∷ []
-
 abbrev pub refused_text : ℕ → ℕ → List ℕ
-refused_text number place = refused_word ++ (decimal number ++ (at_word ++ (decimal place ++ (10 ∷ []))))
+refused_text number place = codes "refused " ++ (decimal number ++ (codes " at " ++ (decimal place ++ (10 ∷ []))))
 
 -- what stands before the first TAB of a line, and what behind it
 abbrev pub before_tab : List ℕ → List ℕ

@@ -21,7 +21,7 @@ pub(crate) fn put_bytes(bytes: &[u8], space: &mut [u8], at: usize) -> Result<usi
 }
 
 // What is left of the room behind the numbers with one blank between, or none where their text is longer.
-#[tactic(auto, using(crate::proofs::Spacing::length_split, crate::proofs::Spacing::length_blanked, crate::proofs::Spacing::spaced_none))]
+#[tactic(auto, using(crate::proofs::Spacing::length_split, crate::proofs::Spacing::length_blanked, crate::proofs::Spacing::spaced_none, std::proofs::lemmas::List::drop_all))]
 pub(crate) fn room_behind(numbers: &[u8], room: usize) -> Option<usize>
     ensures { MatchOption result (room < length (spaced numbers.now)) (λ free. free + length (spaced numbers.now) ≡ room) }
 {
