@@ -1,28 +1,40 @@
 -- Reading a line of numbers gives back the numbers whose text it is, and fails at every other line.
-use Rattle.std.proofs.Common.{◌≡◌, ℕ, ◌+◌, ◌-◌, ◌*◌, ◌/◌, ◌%◌, ◌^◌, ◌<◌, ◌≤◌, true, false, eqb, ltb, leb, ◌⊎◌, List, [], ◌∷◌, ◌++◌, length, Some, None, decimal, Option, sym, refl, ap, ◌∙◌, subst, inl, inr, append_assoc, append-nil, arith}
-use Rattle.reading.specs.Reading.{is_digit, with_digit, go_on, read_on}
+use Rattle.std.proofs.Common.{◌≡◌, ℕ, ◌+◌, ◌-◌, ◌*◌, ◌/◌, ◌%◌, ◌^◌, ◌<◌, ◌≤◌, Bool, true, false, cond, ◌&&◌, eqb, ltb, leb, ◌⊎◌, List, [], ◌∷◌, ◌++◌, length, Some, None, decimal, Option, sym, refl, ap, ◌∙◌, subst, inl, inr, append_assoc, append-nil, arith, length-append}
+use Rattle.reading.specs.Reading.{with_digit}
 use Rattle.reading.specs.Spaced.{Spells, SpellsNone, SpelledOnce}
 use Rattle.std.proofs.lemmas.Fmt.{decimal_digit, decimal_step, decimal_by_steps}
 use Rattle.std.proofs.lemmas.Bool.{cases_Bool, both_ways, and_parts, and_from, leb-true, le-leb, eqb-true, eqb-false, ne_eqb, ltb-false, le-ltb}
 use Rattle.std.specs.List.{AllByRecursion}
 use Rattle.text.specs.Spaced.{spaced}
 
+abbrev is_digit : ℕ → Bool
+is_digit b = leb 48 b && leb b 57
+
+-- go on with the number, if there is one
+abbrev go_on : Option ℕ → (ℕ → Option (List ℕ)) → Option (List ℕ)
+go_on None f = None
+go_on (Some n) f = f n
+
+-- the numbers so far with those of the bytes to come; `number` is the one whose digits are being read
+abbrev pub read_on : List ℕ → Option ℕ → List ℕ → Option (List ℕ)
+read_on ns number [] = go_on number (λ n. Some (ns ++ (n ∷ [])))
+read_on ns number (b ∷ bs) =
+    cond (is_digit b) (go_on (with_digit number b) (λ n. read_on ns (Some n) bs))
+    (cond (eqb b 32) (go_on number (λ n. read_on (ns ++ (n ∷ [])) None bs)) None)
+
 -- the digits read of the number at hand
-abbrev text_of : Option ℕ → List ℕ
+abbrev pub text_of : Option ℕ → List ℕ
 text_of None = []
 text_of (Some n) = decimal n
 
 -- a number that is read is a byte, and its text grew by the digit
-one_digit : (number : Option ℕ) (b n : ℕ) → is_digit b ≡ true → with_digit number b ≡ Some n → decimal n ≡ text_of number ++ (b ∷ [])
-one_digit None b n d e =
-    let p = and_parts (leb 48 b) (leb b 57) d in
-    let low : 48 ≤ b = leb-true 48 b p.0 in
-    let high : b ≤ 57 = leb-true b 57 p.1 in
+one_digit : (number : Option ℕ) (b n : ℕ) → 48 ≤ b → b ≤ 57 → with_digit number b ≡ Some n → decimal n ≡ text_of number ++ (b ∷ [])
+one_digit None b n low high e =
     let is : b - 48 ≡ n = cc in
     let small : n < 10 = omega arith in
     let back : 48 + n ≡ b = omega arith in
     decimal_digit n small ∙ ap (λ x. x ∷ []) back
-one_digit (Some m) b n d e = by (cases_Bool (eqb m 0)) (cases_Bool (ltb 255 (m * 10 + (b - 48))))
+one_digit (Some m) b n low high e = by (cases_Bool (eqb m 0)) (cases_Bool (ltb 255 (m * 10 + (b - 48))))
   where
     by : (eqb m 0 ≡ true) ⊎ (eqb m 0 ≡ false) → (ltb 255 (m * 10 + (b - 48)) ≡ true) ⊎ (ltb 255 (m * 10 + (b - 48)) ≡ false) → decimal n ≡ decimal m ++ (b ∷ [])
     by (inl z) l = let no : None ≡ Some n = rw z at e in cc
@@ -30,9 +42,6 @@ one_digit (Some m) b n d e = by (cases_Bool (eqb m 0)) (cases_Bool (ltb 255 (m *
     by (inr z) (inr l) =
         let yes : Some (m * 10 + (b - 48)) ≡ Some n = rw (z, l) at e in
         let is : m * 10 + (b - 48) ≡ n = cc in
-        let p = and_parts (leb 48 b) (leb b 57) d in
-        let low : 48 ≤ b = leb-true 48 b p.0 in
-        let high : b ≤ 57 = leb-true b 57 p.1 in
         let some = eqb-false m 0 z in
         let small : m * 10 + (b - 48) ≤ 255 = ltb-false 255 (m * 10 + (b - 48)) l in
         let ten : 10 ≤ n = omega arith in
@@ -41,39 +50,25 @@ one_digit (Some m) b n d e = by (cases_Bool (eqb m 0)) (cases_Bool (ltb 255 (m *
         let last : 48 + n % 10 ≡ b = omega arith in
         decimal_step n ten fits ∙ cc
 
--- the text of what is read is what was read and the bytes to come
-abbrev RestSpelled : List ℕ → Option ℕ → List ℕ → List ℕ → Type 0
-RestSpelled ns number bs all = (more : List ℕ) × (all ≡ ns ++ more) × Spells (text_of number ++ bs) more
+pub digit_more : (number : Option ℕ) (b n : ℕ) (rest : List ℕ) → 48 ≤ b → b ≤ 57 → with_digit number b ≡ Some n → decimal n ++ rest ≡ text_of number ++ (b ∷ rest)
+digit_more number b n rest low high e = ap (λ l. l ++ rest) (one_digit number b n low high e) ∙ append_assoc (text_of number) (b ∷ []) rest
 
-spelled_first : (ns : List ℕ) (n : ℕ) (bs all : List ℕ) → RestSpelled (ns ++ (n ∷ [])) None bs all → RestSpelled ns (Some n) (32 ∷ bs) all
-spelled_first ns n bs all r = by r.0 r.1 r.2.0 r.2.1
-  where
-    by : (more : List ℕ) → all ≡ (ns ++ (n ∷ [])) ++ more → 1 ≤ length more → bs ≡ spaced more → RestSpelled ns (Some n) (32 ∷ bs) all
-    by [] is some spells = absurd (omega arith)
-    by (m ∷ ms) is some spells = (n ∷ m ∷ ms, is ∙ append_assoc ns (n ∷ []) (m ∷ ms), (omega arith, ap (λ t. decimal n ++ (32 ∷ t)) spells))
+-- numbers with a blank behind each, and then a text
+abbrev pub in_front : List ℕ → List ℕ → List ℕ
+in_front [] t = t
+in_front (n ∷ ns) t = decimal n ++ (32 ∷ in_front ns t)
 
-sound : (ns : List ℕ) (number : Option ℕ) (bs all : List ℕ) → read_on ns number bs ≡ Some all → RestSpelled ns number bs all
-sound ns None [] all e = let no : None ≡ Some all = e in absurd (both_ways true (cc) refl)
-sound ns (Some n) [] all e =
-    let yes : Some (ns ++ (n ∷ [])) ≡ Some all = e in
-    (n ∷ [], (cc), (omega arith, append-nil (decimal n)))
-sound ns number (b ∷ bs) all e = by (cases_Bool (is_digit b)) (cases_Bool (eqb b 32)) (λ n. sound ns (Some n) bs all) (λ n. sound (ns ++ (n ∷ [])) None bs all)
-  where
-    digit : (o : Option ℕ) → with_digit number b ≡ o → is_digit b ≡ true → go_on o (λ n. read_on ns (Some n) bs) ≡ Some all → ((n : ℕ) → read_on ns (Some n) bs ≡ Some all → RestSpelled ns (Some n) bs all) → RestSpelled ns number (b ∷ bs) all
-    digit None w d e more = let no : None ≡ Some all = e in absurd (both_ways true (cc) refl)
-    digit (Some n) w d e more =
-        let r = more n e in
-        let t : decimal n ++ bs ≡ text_of number ++ (b ∷ bs) = ap (λ l. l ++ bs) (one_digit number b n d w) ∙ append_assoc (text_of number) (b ∷ []) bs in
-        (r.0, r.1, (r.2.0, sym t ∙ r.2.1))
+pub front_more : (ns t : List ℕ) (n : ℕ) → in_front (ns ++ (n ∷ [])) t ≡ in_front ns (decimal n ++ (32 ∷ t))
+front_more [] t n = refl
+front_more (m ∷ ns) t n = ap (λ l. decimal m ++ (32 ∷ l)) (front_more ns t n)
 
-    blank : (o : Option ℕ) → b ≡ 32 → go_on o (λ n. read_on (ns ++ (n ∷ [])) None bs) ≡ Some all → ((n : ℕ) → read_on (ns ++ (n ∷ [])) None bs ≡ Some all → RestSpelled (ns ++ (n ∷ [])) None bs all) → RestSpelled ns o (b ∷ bs) all
-    blank None is e more = let no : None ≡ Some all = e in absurd (both_ways true (cc) refl)
-    blank (Some n) is e more = subst (λ x. RestSpelled ns (Some n) (x ∷ bs) all) (sym is) (spelled_first ns n bs all (more n e))
+spaced_last : (ns : List ℕ) (n : ℕ) → spaced (ns ++ (n ∷ [])) ≡ in_front ns (decimal n ++ [])
+spaced_last [] n = sym (append-nil (decimal n))
+spaced_last (m ∷ []) n = ap (λ l. decimal m ++ (32 ∷ l)) (spaced_last [] n)
+spaced_last (m ∷ k ∷ ns) n = ap (λ l. decimal m ++ (32 ∷ l)) (spaced_last (k ∷ ns) n)
 
-    by : (is_digit b ≡ true) ⊎ (is_digit b ≡ false) → (eqb b 32 ≡ true) ⊎ (eqb b 32 ≡ false) → ((n : ℕ) → read_on ns (Some n) bs ≡ Some all → RestSpelled ns (Some n) bs all) → ((n : ℕ) → read_on (ns ++ (n ∷ [])) None bs ≡ Some all → RestSpelled (ns ++ (n ∷ [])) None bs all) → RestSpelled ns number (b ∷ bs) all
-    by (inl d) s more next = digit (with_digit number b) refl d (rw d at e) more
-    by (inr d) (inl s) more next = blank number (eqb-true b 32 s) (rw (d, s) at e) next
-    by (inr d) (inr s) more next = let no : None ≡ Some all = rw (d, s) at e in absurd (both_ways true (cc) refl)
+pub all_read : (line ns : List ℕ) (n : ℕ) → in_front ns (decimal n ++ []) ≡ line → Spells line (ns ++ (n ∷ []))
+all_read line ns n e = (omega (arith, length-append ns (n ∷ [])), sym (spaced_last ns n ∙ e))
 
 digit_is : (d : ℕ) → d < 10 → is_digit (48 + d) ≡ true
 digit_is d h = and_from (leb 48 (48 + d)) (leb (48 + d) 57) (le-leb 48 (48 + d) (omega arith)) (le-leb (48 + d) 57 (omega arith))
@@ -102,9 +97,6 @@ complete before (n ∷ m ∷ ns) small some =
     number_read before n (omega (arith, small.0)) small.0 (32 ∷ spaced (m ∷ ns))
     ∙ complete (before ++ (n ∷ [])) (m ∷ ns) small.1 (omega arith)
     ∙ ap Some (append_assoc before (n ∷ []) (m ∷ ns))
-
-pub read_all : (line ns : List ℕ) → read_on [] None line ≡ Some ns → Spells line ns
-read_all line ns e = let s = sound [] None line ns e in (rw s.1 s.2.0, s.2.1 ∙ ap spaced (sym s.1))
 
 pub read_none : (line : List ℕ) → read_on [] None line ≡ None → SpellsNone line
 read_none line e ns small spells =
