@@ -1,4 +1,4 @@
-use Rattle.std.proofs.Common.{◌≡◌, ℕ, suc, ◌+◌, ◌/◌, ◌%◌, ◌^◌, ◌<◌, ◌≤◌, ◌⊎◌, List, [], ◌∷◌, ◌++◌, length, take, drop, set, Ok, decimal, sym, refl, ap, ◌∙◌, inl, inr, append_assoc, arith, length-append, length-drop, take-append-drop, length-take-le}
+use Rattle.std.proofs.Common.{◌≡◌, ℕ, suc, ◌+◌, ◌/◌, ◌%◌, ◌^◌, ◌<◌, ◌≤◌, ⊎_elim, List, [], ◌∷◌, ◌++◌, length, take, drop, set, Ok, decimal, sym, refl, ap, ◌∙◌, append_assoc, arith, length-append, length-drop, take-append-drop, length-take-le}
 use lib.Seq.{set_split}
 use Rattle.std.proofs.lemmas.Bool.{cases_lt}
 use Rattle.std.proofs.lemmas.Fmt.{decimal_digit, decimal_step, length-decimal-le}
@@ -53,8 +53,7 @@ mark_then s next at end m t rest is e h =
 
 -- an accepted call wrote the text
 pub placed_ok : (t s : List ℕ) (at end : ℕ) (after : List ℕ) → Placed t s at (Ok end) after → (end ≡ at + length t) × (after ≡ written s at t)
-placed_ok t s at end after p = by (cases_lt (length s) (at + length t))
-  where
-    by : (length s < at + length t) ⊎ (at + length t ≤ length s) → (end ≡ at + length t) × (after ≡ written s at t)
-    by (inl short) = let no = (p.short short).0 in ((cc), (cc))
-    by (inr fits) = let yes = (p.fits fits).0 in ((cc), (p.fits fits).1)
+placed_ok t s at end after p = ⊎_elim
+    (λ short. let no = (p.short short).0 in ((cc), (cc)))
+    (λ fits. let yes = (p.fits fits).0 in ((cc), (p.fits fits).1))
+    (cases_lt (length s) (at + length t))
