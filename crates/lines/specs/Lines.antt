@@ -2,6 +2,7 @@
 use Rattle.std.specs.Prelude.{◌≡◌, ℕ, ◌^◌, ◌<◌, cond, codes, List, [], ◌∷◌, ◌++◌, decimal, ◌==◌}
 use Rattle.lines.specs.declared.Last.TheVariants.{NoTree, NoMore, Fifty}
 use Rattle.lines.specs.declared.Last.{Last}
+use Rattle.std.specs.List.{AllByRecursion}
 use Rattle.text.specs.Spaced.{spaced}
 use Rattle.weight.specs.Text.{text}
 use Rattle.weight.specs.Worth.{Worth, Within}
@@ -36,11 +37,12 @@ abbrev pub behind_tab : List ℕ → List ℕ
 behind_tab [] = []
 behind_tab (b ∷ bs) = cond (b == 9) bs (behind_tab bs)
 
--- the TABs part a tree's line into its number, its weight and its heads
+-- the TABs part a tree's line into its number, its weight and its heads, and there are no others
 pub record Fields (number : ℕ) (weight : Worth) (heads line : List ℕ) : Type 0 where
   pub first : before_tab line ≡ decimal number
   pub second : before_tab (behind_tab line) ≡ text weight
   pub third : behind_tab (behind_tab line) ≡ spaced heads ++ (10 ∷ [])
+  pub last : AllByRecursion (λ h. h < 256) heads → before_tab (behind_tab (behind_tab line)) ≡ behind_tab (behind_tab line)
 
 abbrev pub ToldFields : Type 0
 ToldFields = (number : ℕ) (weight : Worth) (heads : List ℕ) → number < 2 ^ 64 → Within (2 ^ 40) weight → Fields number weight heads (tree_text number weight heads)
