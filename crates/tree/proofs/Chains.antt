@@ -1,7 +1,7 @@
 use Rattle.std.proofs.Common.{◌≡◌, ℕ, zero, suc, ◌+◌, ◌-◌, ◌*◌, ◌<◌, ◌≤◌, Bool, true, false, cond, eqb, ◌⊎◌, sym, refl, ap, ◌∙◌, inl, inr, suc-add, zero-add, zero-mul, le-mul_of_pos_right, arith}
 use Rattle.std.proofs.lemmas.Bool.{cases_eq, cases_Bool, both_ways}
 use Rattle.std.proofs.lemmas.Bool.Decides.{nat_tests}
-use Rattle.tree.specs.Chains.{up, Word, SetIsEntered, Arrives, NeverAgain}
+use Rattle.tree.specs.Chains.{up, Word, Reaches, RunsIntoCycle}
 
 enter : (head : ℕ → ℕ) (inside : ℕ → Bool) → inside 0 ≡ false → (k w : ℕ) → inside w ≡ true → up head k w ≡ 0 → (d : ℕ) × (inside d ≡ true) × (inside (head d) ≡ false)
 enter head inside root zero w s e = absurd (both_ways (inside 0) root (ap inside (sym e) ∙ s))
@@ -11,7 +11,8 @@ enter head inside root (suc k) w s e = by (cases_Bool (inside (head w))) (enter 
     by (inl yes') more = more yes' e
     by (inr no') more = (w, s, no')
 
-pub enters : SetIsEntered
+-- a set of words from which a chain comes to the root has a word whose head lies outside
+pub enters : (head : ℕ → ℕ) (inside : ℕ → Bool) → inside 0 ≡ false → (w : ℕ) → inside w ≡ true → Reaches head w → (d : ℕ) × (inside d ≡ true) × (inside (head d) ≡ false)
 enters head inside root w s r = enter head inside root r.0 w s r.1
 
 -- ---- more places than values: two places have one value
@@ -70,7 +71,8 @@ module _ (head : ℕ → ℕ) (root : head 0 ≡ 0) where
       by (inl e) = omega (arith, ap head e, root)
       by (inr e) = h w (omega arith)
 
-pub never_again : NeverAgain
+-- a chain that comes to the root runs into no cycle
+pub never_again : (head : ℕ → ℕ) → head 0 ≡ 0 → (w : ℕ) → Reaches head w → RunsIntoCycle head w → ⊥
 never_again head root w r c =
     let v : ℕ = up head c.0 w in
     let p : ℕ = c.1 - c.0 in
@@ -81,7 +83,8 @@ never_again head root w r c =
     let y : v ≡ 0 = cc (up_plus head c.0 (r.0 * p) w, round head root p v r.0 b) in
     omega arith
 
-pub arrives : Arrives
+-- a chain that runs into no cycle comes to the root within n steps
+pub arrives : (n : ℕ) (head : ℕ → ℕ) → head 0 ≡ 0 → ((w : ℕ) → Word n w → head w ≤ n) → (w : ℕ) → Word n w → (RunsIntoCycle head w → ⊥) → (k : ℕ) × (k ≤ n) × (up head k w ≡ 0)
 arrives n head root inline w word loopless = by (find (λ k. up head k w) 0 (suc n))
   where
     by : ((k : ℕ) × (k < suc n) × (up head k w ≡ 0)) ⊎ ((k : ℕ) → k < suc n → up head k w ≡ 0 → ⊥) → (k : ℕ) × (k ≤ n) × (up head k w ≡ 0)

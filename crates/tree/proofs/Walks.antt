@@ -7,9 +7,6 @@ use Rattle.tree.proofs.Chains.{arrives, never_again, up_root}
 use Rattle.tree.specs.Chains.{Word, head_of, up, Reaches, OnCycle}
 use Rattle.tree.specs.Trees.{CycleFree, RootedIsCycleFree, OnCycleRuns}
 
-pub head_past : (heads : List ℕ) (w : ℕ) → length heads < w → head_of heads w ≡ 0
-head_past heads w h = get_or_past (0 ∷ heads) w 0 h
-
 up_head : (head : ℕ → ℕ) (k w : ℕ) → up head k (head w) ≡ head (up head k w)
 up_head head zero w = refl
 up_head head (suc k) w = up_head head k (head w)
@@ -57,7 +54,7 @@ pub cycle_word : (heads : List ℕ) (w : ℕ) → OnCycle (head_of heads) w → 
 cycle_word heads w c =
     ⊎_elim
     (λ past.
-    let z : up (head_of heads) (suc c.1.0) w ≡ 0 = ap (up (head_of heads) c.1.0) (head_past heads w past) ∙ up_root (head_of heads) refl c.1.0 in
+    let z : up (head_of heads) (suc c.1.0) w ≡ 0 = ap (up (head_of heads) c.1.0) (get_or_past (0 ∷ heads) w 0 past) ∙ up_root (head_of heads) refl c.1.0 in
     let w0 : w ≡ 0 = sym c.1.1 ∙ z in
     absurd (omega (arith, c.0)))
     (λ le. (c.0, le)) (cases_lt (length heads) w)
@@ -65,9 +62,6 @@ cycle_word heads w c =
 -- a word that was seen and is met again lies on a cycle
 pub met_again : (heads : List ℕ) (seen : List Bool) (w p : ℕ) → p ≡ w → (w ≡ 0 → ⊥) → Leads heads seen w → get_or seen p false ≡ true → OnCycle (head_of heads) p
 met_again heads seen w p e some leads met = subst (OnCycle (head_of heads)) (sym e) (omega arith, leads w (ap (λ q. get_or seen q false) (sym e) ∙ met))
-
-pub no_longer_free : (heads : List ℕ) (w : ℕ) → OnCycle (head_of heads) w → CycleFree heads → ⊥
-no_longer_free heads w c free = free w (cycle_word heads w c) (on_cycle_runs heads w c)
 
 pub rooted_is_cycle_free : RootedIsCycleFree
 rooted_is_cycle_free heads in_line = (

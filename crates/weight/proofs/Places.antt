@@ -6,7 +6,7 @@ use Rattle.std.specs.Fmt.{signed_decimal}
 use Rattle.std.proofs.lemmas.List.{drop_at, drop-drop, drop_all, drop_more, take_rest, set_at, take-append-drop}
 use Rattle.std.proofs.lemmas.Int.{to_z-of_z}
 use Rattle.std.proofs.lemmas.Bool.{cases_lt}
-use Rattle.text.specs.Space.{written, Placed}
+use Rattle.text.specs.Space.{Placed}
 use Rattle.weight.specs.Worth.{Worth}
 use Rattle.weight.specs.Text.{text, Shown}
 
@@ -52,11 +52,6 @@ part_put s k m =
 -- a part that was left as it was
 pub part_same : (s : List ℕ) (k : ℕ) (m : List ℕ) → m ≡ take (length s - k) (drop k s) → put_mid k (length s - k) s m ≡ s
 part_same s k m e = part_put s k m ∙ (ap (λ l. take k s ++ l) (e ∙ take_rest s k) ∙ take-append-drop k s)
-
--- a text at the front of the part from k on stands in the whole space at k
-pub part_written : (s t m : List ℕ) (k n : ℕ) → n ≡ length t → m ≡ t ++ drop n (take (length s - k) (drop k s)) → put_mid k (length s - k) s m ≡ written s k t
-part_written s t m k n e em =
-    part_put s k m ∙ ap (λ l. take k s ++ l) (em ∙ (ap (λ l. t ++ drop n l) (take_rest s k) ∙ (ap (λ l. t ++ l) (drop-drop n k s) ∙ ap (λ i. t ++ drop (k + i) s) e)))
 
 -- the text t is put into the part behind the front f and its comma, then f and the comma before it
 pub front_put : (s f t m u : List ℕ) (w n : ℕ) (r : Result ℕ Refusal) → w ≡ length f → w + 1 ≤ length s → m ≡ t ++ drop n (take (length s - (w + 1)) (drop (w + 1) s)) → Placed f (put_mid (w + 1) (length s - (w + 1)) s m) 0 r u → set u (w + 1 - 1) 44 ≡ (f ++ (44 ∷ t)) ++ drop (w + 1 + n) s
