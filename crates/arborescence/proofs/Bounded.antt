@@ -31,37 +31,33 @@ module _
     (n m : ℕ) (rep : ℕ → ℕ) (add best : ℕ → Worth) (S : ℕ → Bool) (s : ℕ) (size : ℕ → ℕ) (sets : Sets n rep) (union : Union n rep S s)
     (bounds : (ℓ : ℕ) → Leader n rep ℓ → S ℓ ≡ true → Within (m * size ℓ) (best ℓ)) (sized : Sized n m rep add size)
   where
-    inner : ℕ → Bool
+    abbrev inner : ℕ → Bool
     inner ℓ = leads rep ℓ && S ℓ
 
-    all_in : ℕ
+    abbrev all_in : ℕ
     all_in = count_if inner size n
 
     -- the sets of S but that of d
     others : (d : ℕ) → Word n d → S d ≡ true → (inner (rep d) ≡ true) × (1 ≤ size (rep d)) × (all_in ≡ size (rep d) + count_if (but inner (rep d)) size n)
-    unfolding inner all_in
     others d v t =
         let own = sets.leader d v in
         let i = and_from (leads rep (rep d)) (S (rep d)) (eq-eqb (rep (rep d)) (rep d) own) (union.closed d v ∙ t) in
         (i, sized.some (rep d) (record { word = sets.word d v; own = own }), count_out inner size n (rep d) (sets.word d v) i)
 
     some : (ℓ : ℕ) → Leader n (merged S s rep) ℓ → 1 ≤ merged_size S n rep size ℓ
-    unfolding inner all_in
-    some ℓ lead = by (cases_Bool (S ℓ))
+    some ℓ lead = by (S ℓ) refl
       where
-        by : (S ℓ ≡ true) ⊎ (S ℓ ≡ false) → 1 ≤ merged_size S n rep size ℓ
-        by (inl t) = let o = others ℓ lead.word t in rw t (omega arith)
-        by (inr f) = rw f (sized.some ℓ (record { word = lead.word; own = sym (not_in_S n rep S s sets union ℓ f) ∙ lead.own }))
+        by : (t : Bool) → S ℓ ≡ t → 1 ≤ cond t all_in (size ℓ)
+        by true t = let o = others ℓ lead.word t in omega arith
+        by false f = sized.some ℓ (record { word = lead.word; own = sym (not_in_S n rep S s sets union ℓ f) ∙ lead.own })
 
     all : count_if (leads (merged S s rep)) (merged_size S n rep size) n ≡ n
-    unfolding inner all_in
     all =
         let a = merged_count n rep S s sets union size (merged_size S n rep size) (λ ℓ lead f. sym (cond-false (S ℓ) all_in (size ℓ) f)) in
         let b : merged_size S n rep size s ≡ all_in = cond-true (S s) all_in (size s) union.inside in
         omega (arith, a, b, count_split (leads rep) S size n, sized.all)
 
     in_within : (d : ℕ) → Word n d → S d ≡ true → Within (m * (all_in - 1)) (minus (plus (add d) (sum_if inner best n)) (best (rep d)))
-    unfolding inner
     in_within d v t =
         let o = others d v t in
         let r : Worth = sum_if (but inner (rep d)) best n in
@@ -76,13 +72,14 @@ module _
         rw (c, e) (within_like (m * (i + k)) (plus (add d) r) (minus (plus (add d) (plus (best (rep d)) r)) (best (rep d))) l.0 l.1 w')
 
     small : (d : ℕ) → Word n d → Within (m * (merged_size S n rep size (merged S s rep d) - 1)) (raised S n rep add best d)
-    unfolding inner all_in
     small d v = by (cases_Bool (S d))
       where
         by : (S d ≡ true) ⊎ (S d ≡ false) → Within (m * (merged_size S n rep size (merged S s rep d) - 1)) (raised S n rep add best d)
         by (inl t) = rw (t, union.inside) (in_within d v t)
         by (inr f) = let g : S (rep d) ≡ false = union.closed d v ∙ f in rw (f, g) (sized.small d v)
 
+    merged_sized : Sized n m (merged S s rep) (raised S n rep add best) (merged_size S n rep size)
+    merged_sized = record { some = some; all = all; small = small }
+
 pub sized_merge : SizedMerge
-sized_merge n m rep add best S s size sets union bounds sized =
-    record { some = some n m rep add best S s size sets union bounds sized; all = all n m rep add best S s size sets union bounds sized; small = small n m rep add best S s size sets union bounds sized }
+sized_merge = merged_sized

@@ -1,6 +1,6 @@
 -- What both ways of a merge share: the merged sets, and sums over their leaders
-use Rattle.std.proofs.Common.{◌≡◌, ℕ, ◌+◌, ◌≤◌, Bool, true, false, not, ◌&&◌, eqb, leb, ◌⊎◌, [], sym, refl, ap, ◌∙◌, inl, inr, add_assoc, add_comm, zero-add, arith}
-use Rattle.std.proofs.lemmas.Bool.{cases_eq, cases_Bool, both_ways, eq-eqb, eqb-true, leb-true, and_parts, and_from, and_right, not-true, not_from_true, le-leb, cond-true, cond-false}
+use Rattle.std.proofs.Common.{◌≡◌, ℕ, zero, suc, ◌+◌, ◌≤◌, Bool, true, false, cond, not, ◌&&◌, eqb, leb, ◌⊎◌, [], sym, refl, ap, ◌∙◌, inl, inr, add_assoc, add_comm, zero-add, arith}
+use Rattle.std.proofs.lemmas.Bool.{cases_Bool, both_ways, eq-eqb, eqb-true, leb-true, and_parts, and_from, and_right, not-true, le-leb, cond-true, cond-false}
 use Rattle.std.proofs.lemmas.Bool.Decides.{nat_tests}
 use Rattle.weight.specs.Worth.{Worth, plus}
 use Rattle.tree.specs.Chains.{Word}
@@ -24,16 +24,16 @@ module _ (n : ℕ) (stands : ℕ → ℕ → Bool) (head rep : ℕ → ℕ) (set
       ne : rep 0 ≡ 0 → Word n ℓ → inside 0 ≡ false
       ne e v = grind (arith, nat_tests)
 
-      positive : (d : ℕ) → rep d ≡ ℓ → (d ≡ 0) ⊎ (d ≡ 0 → ⊥) → 1 ≤ d
-      positive d i (inl z) = omega (arith, ap rep z, sets.root, lead.word.0)
-      positive d i (inr z) = omega arith
+      positive : (d : ℕ) → rep d ≡ ℓ → 1 ≤ d
+      positive zero i = omega (arith, i, sets.root, lead.word.0)
+      positive (suc d) i = omega arith
 
       by : (d : ℕ) × (inside d ≡ true) × (inside (head d) ≡ false) → (d : ℕ) × Into n stands rep ℓ (head d) d
       by e =
           let d : ℕ = e.0 in
           let t = and_parts (leb d n) (eqb (rep d) ℓ) e.1 in
           let i : rep d ≡ ℓ = eqb-true (rep d) ℓ t.1 in
-          let v : Word n d = (positive d i (cases_eq d 0), leb-true d n t.0) in
+          let v : Word n d = (positive d i, leb-true d n t.0) in
           (d, record { word = v; in_line = tree.in_line d v; standing = tree.standing d v; inside = i; outside = λ o. both_ways (inside (head d)) e.2 (and_from (leb (head d) n) (eqb (rep (head d)) ℓ) (le-leb (head d) n (tree.in_line d v)) (eq-eqb (rep (head d)) ℓ o)) })
 
   pub some_entry : (ℓ : ℕ) → (d : ℕ) × (Leader n rep ℓ → Into n stands rep ℓ (head d) d)
@@ -46,11 +46,8 @@ module _ (n : ℕ) (stands : ℕ → ℕ → Bool) (head rep : ℕ → ℕ) (set
 -- the merged sets
 module _ (n : ℕ) (rep : ℕ → ℕ) (S : ℕ → Bool) (s : ℕ) (sets : Sets n rep) (union : Union n rep S s) where
   pub closed : (v : ℕ) → v ≤ n → S (rep v) ≡ S v
-  closed v le = by (cases_eq v 0)
-    where
-      by : (v ≡ 0) ⊎ (v ≡ 0 → ⊥) → S (rep v) ≡ S v
-      by (inl z) = cc sets.root
-      by (inr z) = union.closed v (omega arith)
+  closed zero le = ap S sets.root
+  closed (suc v) le = union.closed (suc v) (omega arith)
 
   pub at_s : merged S s rep s ≡ s
   at_s = cond-true (S s) s (rep s) union.inside
@@ -79,12 +76,15 @@ module _ (n : ℕ) (rep : ℕ → ℕ) (S : ℕ → Bool) (s : ℕ) (sets : Sets
   finer stands ℓ i h d a e =
       record { word = a.word; in_line = a.in_line; standing = a.standing; inside = e; outside = λ o. a.outside (coarser h d a.in_line a.word.1 (o ∙ sym e) ∙ a.inside) }
 
+  -- and the set that the arc into the new set leads into is one of S
+  pub entered : (stands : ℕ → ℕ → Bool) (h d : ℕ) → Into n stands (merged S s rep) s h d → (S d ≡ true) × Leader n rep (rep d) × (S (rep d) ≡ true)
+  entered stands h d a =
+      let t : S d ≡ true = same_side d s a.word.1 a.inside ∙ union.inside in
+      (t, record { word = sets.word d a.word; own = sets.leader d a.word }, union.closed d a.word ∙ t)
+
   pub rep_le : (v : ℕ) → v ≤ n → (rep v ≤ n) × (rep (rep v) ≡ rep v)
-  rep_le v le = by (cases_eq v 0)
-    where
-      by : (v ≡ 0) ⊎ (v ≡ 0 → ⊥) → (rep v ≤ n) × (rep (rep v) ≡ rep v)
-      by (inl z) = let e : rep v ≡ 0 = cc sets.root in (omega arith, cc sets.root)
-      by (inr z) = let k : Word n v = omega arith in ((sets.word v k).1, sets.leader v k)
+  rep_le zero le = (omega (arith, sets.root), ap rep sets.root)
+  rep_le (suc v) le = let k : Word n (suc v) = omega arith in ((sets.word (suc v) k).1, sets.leader (suc v) k)
 
   pub merged_sets : Sets n (merged S s rep)
   merged_sets =
@@ -104,11 +104,11 @@ module _ (n : ℕ) (rep : ℕ → ℕ) (S : ℕ → Bool) (s : ℕ) (sets : Sets
         rw (totals.split op unit assoc comm first (leads (merged S s rep)) S term' n, inner, outer) refl
       where
         tests : (ℓ : ℕ) → Word n ℓ → (leads rep ℓ && not (S ℓ)) ≡ (leads (merged S s rep) ℓ && not (S ℓ))
-        tests ℓ v = by (cases_Bool (S ℓ))
+        tests ℓ v = by (S ℓ)
           where
-            by : (S ℓ ≡ true) ⊎ (S ℓ ≡ false) → (leads rep ℓ && not (S ℓ)) ≡ (leads (merged S s rep) ℓ && not (S ℓ))
-            by (inl t) = and_right (leads rep ℓ) (not (S ℓ)) (not_from_true (S ℓ) t) ∙ sym (and_right (leads (merged S s rep) ℓ) (not (S ℓ)) (not_from_true (S ℓ) t))
-            by (inr f) = cc
+            by : (t : Bool) → (leads rep ℓ && not t) ≡ (eqb (cond t s (rep ℓ)) ℓ && not t)
+            by true = and_right (leads rep ℓ) false refl ∙ sym (and_right (eqb s ℓ) false refl)
+            by false = refl
 
         terms : (ℓ : ℕ) → Word n ℓ → (leads (merged S s rep) ℓ && not (S ℓ)) ≡ true → term ℓ ≡ term' ℓ
         terms ℓ v t =

@@ -8,19 +8,18 @@ use Rattle.weight.specs.Worth.{Worth, plus, at_most, AtMost}
 use Rattle.tree.specs.Chains.{Word, up, head_of, Reaches}
 use Rattle.arborescence.specs.Sum.{count_if}
 use Rattle.arborescence.specs.Search.{Tree, tree_worth}
-use Rattle.arborescence.specs.Heads.{TreeOver, worth_from, rooted, OneRoot, Single, Read, Written, BestSingle}
+use Rattle.arborescence.specs.Heads.{TreeOver, worth_from, rooted, OneRoot, Single, BestSingle}
 use Rattle.weight.proofs.Worths.{plus_none, plus_assoc, plus_left_comm, leads_out}
 use Rattle.tree.proofs.Chains.{enters, arrives, never_again}
 use Rattle.arborescence.proofs.Totals as totals
 use Rattle.arborescence.proofs.Totals.{but}
 use Rattle.arborescence.proofs.Sums.{count_out}
 
-on_root : (ℕ → ℕ) → ℕ → ℕ
+abbrev on_root : (ℕ → ℕ) → ℕ → ℕ
 on_root head n = count_if (λ w. eqb (head w) 0) (λ w. 1) n
 
 -- the place in front is the number of words on the root, below 0
 front : (worth : ℕ → ℕ → Worth) (head : ℕ → ℕ) (n : ℕ) → tree_worth (rooted worth) head (suc n) ≡ neg_ℤ (pos (on_root head (suc n))) ∷ tree_worth worth head (suc n)
-unfolding on_root
 front worth head zero = by (eqb (head 1) 0) (worth (head 1) 1)
   where
     by : (b : Bool) (x : Worth) → ◌≡◌ {A = Worth} (cond b (negsuc 0) (pos 0) ∷ x) (neg_ℤ (pos (cond b 1 0 + 0)) ∷ plus x [])
@@ -34,7 +33,6 @@ front worth head (suc n) = by (eqb (head (suc (suc n))) 0) (worth (head (suc (su
 
 -- one word on the root, counted
 one_on_root : (n : ℕ) (head : ℕ → ℕ) → OneRoot n head → on_root head n ≡ 1
-unfolding on_root
 one_on_root n head r =
     totals.one ◌+◌ 0 add_assoc add_comm zero-add (λ w. eqb (head w) 0) (λ w. 1) n r.root r.word (eq-eqb (head r.root) 0 r.hangs) (λ w v t. r.only w v (eqb-true (head w) 0 t))
 
@@ -61,14 +59,15 @@ compare r x y h = by (leads_out (neg_ℤ (pos 1)) (neg_ℤ (pos (1 + r))) (at_mo
     by (inl lt) = absurd (omega (arith, ints))
     by (inr e) = (omega (arith, ints, e.0), record { holds = e.1 })
 
--- and where the count is one, one word hangs there
-one_root : (n : ℕ) (stands : ℕ → ℕ → Bool) (head : ℕ → ℕ) → 1 ≤ n → Tree n stands head → on_root head n ≡ 1 → OneRoot n head
-unfolding on_root
-one_root n stands head le tree count =
+-- how many more hang on the root than one, and where none does, the one
+roots : (n : ℕ) (stands : ℕ → ℕ → Bool) (head : ℕ → ℕ) → 1 ≤ n → Tree n stands head → (r : ℕ) × (on_root head n ≡ 1 + r) × (r ≡ 0 → OneRoot n head)
+roots n stands head le tree =
     let d = some_on_root n stands head le tree in
-    let p : ℕ → Bool = λ w. eqb (head w) 0 in
-    let c : on_root head n ≡ 1 + count_if (but p d.0) (λ w. 1) n = count_out p (λ w. 1) n d.0 d.1 (eq-eqb (head d.0) 0 d.2) in
-    record { root = d.0; word = d.1; hangs = d.2; only = λ w v z. only d.0 w v z (omega (arith, c, count)) (cases_eq w d.0) }
+    let p : ℕ → Bool = λ w. eqb (head w) 0 in (
+      count_if (but p d.0) (λ w. 1) n,
+      count_out p (λ w. 1) n d.0 d.1 (eq-eqb (head d.0) 0 d.2),
+      λ none. record { root = d.0; word = d.1; hangs = d.2; only = λ w v z. only d.0 w v z none (cases_eq w d.0) },
+    )
   where
     only : (d w : ℕ) → Word n w → head w ≡ 0 → count_if (but (λ w. eqb (head w) 0) d) (λ w. 1) n ≡ 0 → (w ≡ d) ⊎ (w ≡ d → ⊥) → w ≡ d
     only d w v z k (inl e) = e
@@ -77,17 +76,12 @@ one_root n stands head le tree count =
         absurd (omega (arith, count_out (but (λ w. eqb (head w) 0) d) (λ w. 1) n w v t))
 
 pub single : Single
-unfolding on_root
 single zero stands worth head le tree best other tree' one = absurd (omega arith)
 single (suc n) stands worth head le tree best other tree' one =
-    let d = some_on_root (suc n) stands head le tree in
-    let p : ℕ → Bool = λ w. eqb (head w) 0 in
-    let rest : ℕ = count_if (but p d.0) (λ w. 1) (suc n) in
-    let c : on_root head (suc n) ≡ 1 + rest = count_out p (λ w. 1) (suc n) d.0 d.1 (eq-eqb (head d.0) 0 d.2) in
+    let r = roots (suc n) stands head le tree in
     let b : AtMost (neg_ℤ (pos (on_root other (suc n))) ∷ tree_worth worth other (suc n)) (neg_ℤ (pos (on_root head (suc n))) ∷ tree_worth worth head (suc n)) = rw (← front worth other n, ← front worth head n) (best other tree') in
-    let b' : AtMost (neg_ℤ (pos 1) ∷ tree_worth worth other (suc n)) (neg_ℤ (pos (1 + rest)) ∷ tree_worth worth head (suc n)) = rw (one_on_root (suc n) other one, c) at b in
-    let k = compare rest (tree_worth worth other (suc n)) (tree_worth worth head (suc n)) b' in
-    (one_root (suc n) stands head le tree (omega (arith, c, k.0)), k.1)
+    let k = compare r.0 (tree_worth worth other (suc n)) (tree_worth worth head (suc n)) (rw (one_on_root (suc n) other one, r.1) at b) in
+    (r.2 k.0, k.1)
 
 -- ---- the place in front tells whether one word hangs on the root
 pub front_of_one : (n : ℕ) (worth : ℕ → ℕ → Worth) (head : ℕ → ℕ) → 1 ≤ n → OneRoot n head → tree_worth (rooted worth) head n ≡ negsuc 0 ∷ tree_worth worth head n
@@ -98,7 +92,8 @@ pub one_by_front : (n : ℕ) (stands : ℕ → ℕ → Bool) (worth : ℕ → �
 one_by_front zero stands worth head le tree e = absurd (omega arith)
 one_by_front (suc n) stands worth head le tree e =
     let c : neg_ℤ (pos (on_root head (suc n))) ≡ negsuc 0 = sym (ap (λ (x : Worth). get_or x 0 (pos 0)) (front worth head n)) ∙ e in
-    one_root (suc n) stands head le tree (omega (arith, ints, c))
+    let r = roots (suc n) stands head le tree in
+    r.2 (omega (arith, ints, c, r.1))
 
 -- ---- lists of heads
 from_is : (worth : ℕ → ℕ → Worth) (head : ℕ → ℕ) (hs : List ℕ) (m : ℕ) → ((i : ℕ) → i < length hs → get_or hs i 0 ≡ head (suc m + i)) → plus (tree_worth worth head m) (worth_from worth (suc m) hs) ≡ tree_worth worth head (m + length hs)
@@ -113,7 +108,9 @@ from_is worth head (h ∷ hs) m at =
     let z : plus t (plus x y) ≡ plus (plus x t) y = plus_left_comm t x y ∙ sym (plus_assoc x t y) in
     cc
 
-pub read : Read
+-- the tree of a list of heads, and its worth
+pub read : (n : ℕ) (stands : ℕ → ℕ → Bool) (worth : ℕ → ℕ → Worth) (heads : List ℕ) → TreeOver n stands heads →
+    Tree n stands (head_of heads) × OneRoot n (head_of heads) × (worth_from worth 1 heads ≡ tree_worth worth (head_of heads) n)
 read n stands worth heads t =
     let shape = t.shape.shape in
     let top = t.shape.top in (
@@ -131,15 +128,12 @@ listed_at head n (suc i) v = get_or-map-range_with_len head 1 n i (suc i) 0 (ome
 
 module _ (n : ℕ) (head list : ℕ → ℕ) (in_line : (w : ℕ) → Word n w → head w ≤ n) (same : (w : ℕ) → Word n w → list w ≡ head w) where
   carried : (k w : ℕ) → w ≤ n → up head k w ≡ 0 → Reaches list w
-  carried zero w le e = (0, e)
-  carried (suc k) w le e = by (cases_eq w 0) (carried k (head w))
-    where
-      by : (w ≡ 0) ⊎ (w ≡ 0 → ⊥) → (head w ≤ n → up head k (head w) ≡ 0 → Reaches list (head w)) → Reaches list w
-      by (inl z) more = (0, z)
-      by (inr z) more =
-          let v : Word n w = omega arith in
-          let r = more (in_line w v) e in
-          (suc r.0, ap (up list r.0) (same w v) ∙ r.1)
+  carried k zero le e = (0, refl)
+  carried zero (suc w) le e = absurd (omega arith)
+  carried (suc k) (suc w) le e =
+      let v : Word n (suc w) = omega arith in
+      let r = carried k (head (suc w)) (in_line (suc w) v) e in
+      (suc r.0, ap (up list r.0) (same (suc w) v) ∙ r.1)
 
 -- a list that has the heads of a tree with one word on the root
 pub written_as : (n : ℕ) (stands : ℕ → ℕ → Bool) (worth : ℕ → ℕ → Worth) (head : ℕ → ℕ) (heads : List ℕ) → length heads ≡ n → ((w : ℕ) → Word n w → head_of heads w ≡ head w) → Tree n stands head → OneRoot n head →
@@ -160,17 +154,14 @@ written_as n stands worth head heads sized same tree one = (
   from_is worth head heads 0 (λ i l. same (suc i) (omega (arith, sized)) ∙ (let q : suc i ≡ 1 + i = omega arith in ap head q)) ∙ ap (tree_worth worth head) (omega (arith, sized)),
 )
 
-pub written : Written
-written n stands worth head tree one = let r = written_as n stands worth head (listed head n) (length-map-range_with_len head 1 n) (listed_at head n) tree one in (listed head n, r.0, r.1)
-
 pub best_single : BestSingle
 best_single n stands worth head le tree best some t =
     let r = read n stands worth some t in
     let one = (single n stands worth head le tree best (head_of some) r.0 r.1).0 in
-    let w = written n stands worth head tree one in (
+    let w = written_as n stands worth head (listed head n) (length-map-range_with_len head 1 n) (listed_at head n) tree one in (
+      listed head n,
       w.0,
-      w.1,
       λ other o.
           let q = read n stands worth other o in
-          rw (q.2, w.2) (single n stands worth head le tree best (head_of other) q.0 q.1).1,
+          rw (q.2, w.1) (single n stands worth head le tree best (head_of other) q.0 q.1).1,
     )

@@ -4,7 +4,7 @@ use Rattle.std.proofs.lemmas.Bool.{eqb-false, and_parts, not-true}
 use Rattle.weight.specs.Worth.{Worth, plus, AtMost}
 use Rattle.tree.specs.Chains.{Word}
 use Rattle.arborescence.specs.Sum.{sum_if, count_if}
-use Rattle.weight.proofs.Worths.{plus_comm, plus_assoc, plus_left_comm, at_most_refl, at_most_plus, at_most_plus_both}
+use Rattle.weight.proofs.Worths.{plus_comm, plus_assoc, plus_left_comm, at_most_refl, at_most_trans, at_most_cancel, at_most_plus, at_most_plus_both}
 use Rattle.arborescence.proofs.Totals as totals
 use Rattle.arborescence.proofs.Totals.{but}
 
@@ -13,6 +13,10 @@ pub ruleset sorts = (plus_assoc, plus_comm, plus_left_comm)
 
 pub at_most_eq : (a b : Worth) → a ≡ b → AtMost a b
 at_most_eq a b e = subst (λ (v : Worth). AtMost a v) e (at_most_refl a)
+
+-- m lies between p and r with b added to both, so in g's bound r may stand for p
+pub through : (g p r o b m : Worth) → AtMost g (plus p o) → AtMost (plus p b) m → AtMost m (plus r b) → AtMost g (plus r o)
+through g p r o b m h₁ h₂ h₃ = at_most_trans _ _ _ h₁ (at_most_plus p r o (at_most_cancel p r b (at_most_trans _ _ _ h₂ h₃)))
 
 pub sum_same : (p q : ℕ → Bool) (f g : ℕ → Worth) (n : ℕ) → ((w : ℕ) → Word n w → p w ≡ q w) → ((w : ℕ) → Word n w → q w ≡ true → f w ≡ g w) → sum_if p f n ≡ sum_if q g n
 sum_same = totals.same plus []

@@ -1,20 +1,13 @@
 -- Sums over the words 1..n that pass a test, of anything that is added
 use Rattle.std.proofs.Common.{◌≡◌, ℕ, zero, suc, Bool, true, false, cond, not, ◌&&◌, eqb, ◌⊎◌, sym, refl, ap, ◌∙◌, inl, inr, arith}
-use Rattle.std.proofs.lemmas.Bool.{cases_eq, cases_Bool, eq-eqb, ne_eqb}
+use Rattle.std.proofs.lemmas.Bool.{cases_eq, cases_Bool, eq-eqb, ne_eqb, and_right, not_from_true}
+use Rattle.std.proofs.Math.Bool.{and-true}
 use Rattle.tree.specs.Chains.{Word}
 use Rattle.arborescence.specs.Sum.{sum_by}
 
 -- p, but not at j
 abbrev pub but : (ℕ → Bool) → ℕ → ℕ → Bool
 but p j w = p w && not (eqb w j)
-
-and_true : (b c : Bool) → c ≡ false → (b && not c) ≡ b
-and_true true c e = cc
-and_true false c e = refl
-
-and_false : (b c : Bool) → c ≡ true → (b && not c) ≡ false
-and_false true c e = cc
-and_false false c e = refl
 
 module _ {X : Type 0} (op : X → X → X) (unit : X) where
   pub same : (p q : ℕ → Bool) (f g : ℕ → X) (n : ℕ) → ((w : ℕ) → Word n w → p w ≡ q w) → ((w : ℕ) → Word n w → q w ≡ true → f w ≡ g w) → sum_by op unit p f n ≡ sum_by op unit q g n
@@ -53,13 +46,13 @@ module _ {X : Type 0} (op : X → X → X) (unit : X) where
       where
         by : (suc n ≡ j) ⊎ (suc n ≡ j → ⊥) → (Word n j → p j ≡ true → sum_by op unit p f n ≡ op (f j) (sum_by op unit (but p j) f n)) → op (cond (p (suc n)) (f (suc n)) unit) (sum_by op unit p f n) ≡ op (f j) (op (cond (but p j (suc n)) (f (suc n)) unit) (sum_by op unit (but p j) f n))
         by (inl e) more =
-            let rest : sum_by op unit (but p j) f n ≡ sum_by op unit p f n = same (but p j) p f f n (λ w v. and_true (p w) (eqb w j) (ne_eqb w j (λ k. omega arith))) (λ w v k. refl) in
+            let rest : sum_by op unit (but p j) f n ≡ sum_by op unit p f n = same (but p j) p f f n (λ w v. cc (ne_eqb w j (λ k. omega arith), and-true (p w))) (λ w v k. refl) in
             let here : p (suc n) ≡ true = rw e t in
-            let gone : but p j (suc n) ≡ false = and_false (p (suc n)) (eqb (suc n) j) (eq-eqb (suc n) j e) in
+            let gone : but p j (suc n) ≡ false = and_right (p (suc n)) _ (not_from_true _ (eq-eqb (suc n) j e)) in
             let fe : f (suc n) ≡ f j = ap f e in
             cc (first (sum_by op unit p f n))
         by (inr e) more =
-            let kept : but p j (suc n) ≡ p (suc n) = and_true (p (suc n)) (eqb (suc n) j) (ne_eqb (suc n) j e) in
+            let kept : but p j (suc n) ≡ p (suc n) = cc (ne_eqb (suc n) j e, and-true (p (suc n))) in
             rw (more (omega arith) t, kept) (left_comm (cond (p (suc n)) (f (suc n)) unit) (f j) (sum_by op unit (but p j) f n))
 
     pub one : (p : ℕ → Bool) (f : ℕ → X) (n j : ℕ) → Word n j → p j ≡ true → ((w : ℕ) → Word n w → p w ≡ true → w ≡ j) → sum_by op unit p f n ≡ f j

@@ -32,18 +32,6 @@ Single =
     ((other : ℕ → ℕ) → Tree n stands other → AtMost (tree_worth (rooted worth) other n) (tree_worth (rooted worth) head n)) →
     (other : ℕ → ℕ) → Tree n stands other → OneRoot n other → OneRoot n head × AtMost (tree_worth worth other n) (tree_worth worth head n)
 
--- the tree of a list of heads, and its worth
-abbrev pub Read : Type 0
-Read =
-    (n : ℕ) (stands : ℕ → ℕ → Bool) (worth : ℕ → ℕ → Worth) (heads : List ℕ) → TreeOver n stands heads →
-    Tree n stands (head_of heads) × OneRoot n (head_of heads) × (worth_from worth 1 heads ≡ tree_worth worth (head_of heads) n)
-
--- and back: a tree with one word on the root as a list
-abbrev pub Written : Type 0
-Written =
-    (n : ℕ) (stands : ℕ → ℕ → Bool) (worth : ℕ → ℕ → Worth) (head : ℕ → ℕ) → Tree n stands head → OneRoot n head →
-    (heads : List ℕ) × TreeOver n stands heads × (worth_from worth 1 heads ≡ tree_worth worth head n)
-
 -- the best tree by the worths with that place, as a list: if any list is a tree with one word on the root, it is the best of those
 abbrev pub BestSingle : Type 0
 BestSingle =

@@ -79,35 +79,6 @@ pub record Circle (n : ℕ) (stands : ℕ → ℕ → Bool) (worth : ℕ → ℕ
   pub round : (i j : ℕ) → Leader n rep i → S i ≡ true → Leader n rep j → S j ≡ true → (k : ℕ) × (up (λ ℓ. rep (from ℓ)) k i ≡ j)
 
 -- ---- what is to show
-abbrev pub Start : Type 0
-Start = (n : ℕ) (stands : ℕ → ℕ → Bool) (worth : ℕ → ℕ → Worth) → Opt n stands worth (λ w. w) (λ w. [])
-
-abbrev pub Merge : Type 0
-Merge =
-    (n : ℕ) (stands : ℕ → ℕ → Bool) (worth : ℕ → ℕ → Worth) (rep : ℕ → ℕ) (add best : ℕ → Worth) (S : ℕ → Bool) (s : ℕ) →
-    Sets n rep → Union n rep S s → ((ℓ : ℕ) → Leader n rep ℓ → S ℓ ≡ true → Covers n stands worth rep add ℓ (best ℓ)) →
-    Opt n stands worth rep add → Opt n stands worth (merged S s rep) (raised S n rep add best)
-
--- the other way round
-abbrev pub Unmerge : Type 0
-Unmerge =
-    (n : ℕ) (stands : ℕ → ℕ → Bool) (worth : ℕ → ℕ → Worth) (rep : ℕ → ℕ) (add best : ℕ → Worth) (S : ℕ → Bool) (s : ℕ) (from to : ℕ → ℕ) (goal : Worth) →
-    Sets n rep → Union n rep S s → Circle n stands worth rep add best S from to →
-    Built n stands worth (merged S s rep) (raised S n rep add best) goal → Built n stands worth rep add goal
-
--- no tree is worth more than the best arcs of all the sets
-abbrev pub End : Type 0
-End =
-    (n : ℕ) (stands : ℕ → ℕ → Bool) (worth : ℕ → ℕ → Worth) (rep : ℕ → ℕ) (add best : ℕ → Worth) →
-    Sets n rep → ((ℓ : ℕ) → Leader n rep ℓ → Covers n stands worth rep add ℓ (best ℓ)) → Opt n stands worth rep add →
-    (head : ℕ → ℕ) → Tree n stands head → AtMost (tree_worth worth head n) (sum_if (leads rep) best n)
-
--- arcs into the words one by one make a tree
-abbrev pub Bottom : Type 0
-Bottom =
-    (n : ℕ) (stands : ℕ → ℕ → Bool) (worth : ℕ → ℕ → Worth) (goal : Worth) → Built n stands worth (λ w. w) (λ w. []) goal →
-    (head : ℕ → ℕ) × Tree n stands head × AtMost goal (tree_worth worth head n)
-
 -- where no arc leads into a set there is no tree
 abbrev pub None : Type 0
 None =

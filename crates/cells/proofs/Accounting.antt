@@ -4,20 +4,20 @@ use Rattle.std.specs.List.Sorted.{IsPermutation}
 use Rattle.std.specs.List.{AllByRecursion}
 use Rattle.std.specs.Str.{bytes_eq}
 use Rattle.std.proofs.ByRecursion.{All-weaker, all_shuffled}
-use Rattle.std.proofs.lemmas.List.Sorted.{sum_by-IsPermutation}
 use Rattle.std.proofs.lemmas.Slice.Eq.{bytes_eq-Decides}
-use Rattle.std.proofs.lemmas.Bool.{cases_Bool, cases_lt, not-false, le-leb, lt-leb, leb-true}
+use Rattle.std.proofs.lemmas.Bool.{cases_lt, false_from_ne_true, not-false, le-leb, lt-leb, leb-true}
 use Rattle.std.proofs.lemmas.Bool.Decides.{nat_tests, same_from_decides, Decides-like}
 use Rattle.weight.specs.Worth.{Worth, at_most, AtMost}
 use Rattle.tree.specs.Chains.{head_of}
 use Rattle.weight.proofs.Worths.{at_most_refl, at_most_trans}
 use Rattle.arborescence.specs.Heads.{TreeOver, worth_from}
 use Rattle.queue.specs.Heap.{Greatest, Least}
+use Rattle.queue.proofs.Counting.{as_many, count_cons, count_all, count_shuffled}
 use Rattle.cells.specs.Cells.{InCell, bans_at, apart_at, in_cell, pending}
 use Rattle.cells.specs.Accounts.{Cell, Among, times, holds, heavier, BestOfCell, BestOfSubCell, Next, homes, over, Accounted}
 use Rattle.cells.specs.Steps.{Steps, AllSteps}
 use Rattle.cells.proofs.Parting.{same_all, apart_all, same_before, in_cell_decides, split}
-use Rattle.cells.proofs.Counts.{one_if, none_if, as_many, count_cons, count_all, counted, times_cons, among_times, times_among, test_at_most, at_most_test}
+use Rattle.cells.proofs.Counts.{counted, among_times, times_among, test_at_most, at_most_test}
 
 all_both : {X : Type 0} (P Q : X → Type 0) (xs : List X) → AllByRecursion P xs → AllByRecursion Q xs → AllByRecursion (λ x. P x × Q x) xs
 all_both P Q [] h k = tt
@@ -32,7 +32,7 @@ module _ (n : ℕ) (c : Cell) (t : List ℕ) (sized : length c.heads ≡ n) (siz
   same_is : bytes_eq t c.heads ≡ leb (suc n) (apart_at t c.heads)
   same_is = same_from_decides _ _ (bytes_eq-Decides t c.heads) (
     λ e. same_all n c.heads t sized sized-t (leb-true (suc n) (apart_at t c.heads) e),
-    λ e. let q = apart_all n c.heads t sized sized-t e in le-leb (suc n) (apart_at t c.heads) (omega arith),
+    λ e. le-leb (suc n) (apart_at t c.heads) (apart_all n c.heads t sized sized-t e),
   )
 
   pub whole : c.from ≤ n → c.banned (head_of c.heads c.from) ≡ false →
@@ -95,8 +95,8 @@ module _ (n : ℕ) (Tree : List ℕ → Type 0) (value : List ℕ → Worth) {X 
       all : (t : List ℕ) → Tree t → Homes (u.heads ∷ []) u 1 [] t ≡ 1
       all t is =
           let w = whole n u t (sized u.heads b.tree) (sized t is) b.place.1 b.free in
-          let e = one_if (holds t u) (every t is) in
-          let q = times_cons t u.heads [] in
+          let e = as_many (holds t u) true (every t is) in
+          let q = count_cons (bytes_eq t) u.heads [] in
           let w' = subst (λ (p : ℕ). cond (holds t u) 1 0 ≡ cond (bytes_eq t u.heads) 1 0 + cond (pending n u.heads u.from u.banned p t) 1 0) one w in
           omega arith
 
@@ -118,16 +118,12 @@ module _ (n : ℕ) (Tree : List ℕ → Type 0) (value : List ℕ → Worth) {X 
     }
       where
         out : (t : List ℕ) → Tree t → in_cell u.heads p (bans_at u.heads u.from u.banned p) t ≡ false
-        out t is = by (cases_Bool _)
-          where
-            by : (in_cell u.heads p (bans_at u.heads u.from u.banned p) t ≡ true) ⊎ (in_cell u.heads p (bans_at u.heads u.from u.banned p) t ≡ false) → in_cell u.heads p (bans_at u.heads u.from u.banned p) t ≡ false
-            by (inl e) = absurd (empty t is ((in_cell_decides n u.heads t (sized u.heads k.tree) (sized t is) p (bans_at u.heads u.from u.banned p) (omega arith)).0 e))
-            by (inr e) = e
+        out t is = false_from_ne_true _ (λ e. empty t is ((in_cell_decides n u.heads t (sized u.heads k.tree) (sized t is) p (bans_at u.heads u.from u.banned p) (omega arith)).0 e))
 
         same : (t : List ℕ) → Tree t → Homes ts u p cs t ≡ Homes ts u (suc p) cs t
         same t is =
             let s = splits t is in
-            let z = none_if _ (out t is) in
+            let z = as_many _ false (out t is) in
             omega arith
 
     push : (x : X) → BestOfSubCell n Tree value u p (view x) → Kept ts u (suc p) (x ∷ cs)
@@ -204,9 +200,9 @@ module _ (n : ℕ) (Tree : List ℕ → Type 0) (value : List ℕ → Worth) {X 
       found t is false h true e old = inr (outnumbered t (at_most_test _ _ e))
       found t is false h false e old =
           let q = count_cons (λ c. holds t (view c)) y cs in
-          let z = none_if (holds t (view y)) h in
+          let z = as_many (holds t (view y)) false h in
           let r = count_cons (λ c. at_most (value t) (view c).worth) y cs in
-          let w = none_if (at_most (value t) (view y).worth) e in
+          let w = as_many (at_most (value t) (view y).worth) false e in
           found_same (Homes ts u p (y ∷ cs) t) (Homes ts u p cs t) (length ts) (Over (y ∷ cs) t) (length ts) (Over cs t) (omega arith) (omega arith) old
 
   -- ---- all is split
@@ -236,7 +232,7 @@ module _ (n : ℕ) (Tree : List ℕ → Type 0) (value : List ℕ → Worth) {X 
       tree = b.tree;
       untaken = λ m.
           let a = among_times (view x).heads ts m in
-          let e = one_if (holds (view x).heads (view x)) (own (view x) b) in
+          let e = as_many (holds (view x).heads (view x)) true (own (view x) b) in
           let q = count_cons (λ c. holds (view x).heads (view c)) x cs in
           let o = k.once (view x).heads b.tree in
           omega arith;
@@ -256,7 +252,7 @@ module _ (n : ℕ) (Tree : List ℕ → Type 0) (value : List ℕ → Worth) {X 
       same t is =
           let z = nothing_left n u t (sized u.heads k.tree) (sized t is) in
           let w = whole n (view x) t (sized (view x).heads b.tree) (sized t is) b.place.1 b.free in
-          let c = times_cons t (view x).heads ts in
+          let c = count_cons (bytes_eq t) (view x).heads ts in
           let q = count_cons (λ c. holds t (view c)) x cs in
           omega arith
 
@@ -292,10 +288,10 @@ module _ (n : ℕ) (Tree : List ℕ → Type 0) (value : List ℕ → Worth) {X 
   }
     where
       homes_same : (t : List ℕ) → Homes ts u p cs t ≡ Homes ts u p ds t
-      homes_same t = let e = sum_by-IsPermutation (λ c. cond (holds t (view c)) 1 0) cs ds s in omega arith
+      homes_same t = let e = count_shuffled (λ c. holds t (view c)) cs ds s in omega arith
 
       over_same : (t : List ℕ) → Over ds t ≡ Over cs t
-      over_same t = sum_by-IsPermutation (λ c. cond (at_most (value t) (view c).worth) 1 0) cs ds s
+      over_same t = count_shuffled (λ c. at_most (value t) (view c).worth) cs ds s
 
   pub steps : Steps n Tree value view limit
   steps = record { start = start; push = λ ts u p cs x le b k. push ts u p cs le k x b; pass = λ ts u p cs le e k. pass ts u p cs le k e; drop_least = drop_least; take_greatest = take_greatest; no_more = no_more; shuffle = shuffle }

@@ -2,29 +2,10 @@
 use Rattle.std.proofs.Common.{◌≡◌, ℕ, ◌+◌, ◌≤◌, Bool, true, false, cond, T, ◌⊎◌, List, [], ◌∷◌, length, count_by, sym, refl, ap, subst, inl, inr, arith}
 use Rattle.std.specs.List.{AllByRecursion}
 use Rattle.std.specs.Str.{bytes_eq}
-use Rattle.std.proofs.lemmas.List.Sums.{sum_by-cons}
 use Rattle.std.proofs.lemmas.Slice.Eq.{bytes_eq-Decides}
+use Rattle.queue.proofs.Counting.{as_many, count_cons}
 use Rattle.weight.specs.Worth.{Worth, at_most, AtMost}
 use Rattle.cells.specs.Accounts.{Among, times}
-
-pub one_if : (b : Bool) → b ≡ true → ◌≡◌ {A = ℕ} (cond b 1 0) 1
-one_if b e = ap (λ (x : Bool). cond {A = ℕ} x 1 0) e
-
-pub none_if : (b : Bool) → b ≡ false → ◌≡◌ {A = ℕ} (cond b 1 0) 0
-none_if b e = ap (λ (x : Bool). cond {A = ℕ} x 1 0) e
-
-pub as_many : (a b : Bool) → a ≡ b → ◌≡◌ {A = ℕ} (cond a 1 0) (cond b 1 0)
-as_many a b e = ap (λ (x : Bool). cond {A = ℕ} x 1 0) e
-
-pub count_cons : {X : Type 0} (p : X → Bool) (x : X) (xs : List X) → count_by p (x ∷ xs) ≡ cond (p x) 1 0 + count_by p xs
-count_cons p x xs = sum_by-cons (λ y. cond (p y) 1 0) x xs
-
-pub count_all : {X : Type 0} (p : X → Bool) (xs : List X) → AllByRecursion (λ x. p x ≡ true) xs → count_by p xs ≡ length xs
-count_all p [] h = refl
-count_all p (x ∷ xs) h =
-    let c = count_cons p x xs in
-    let e = one_if (p x) h.0 in
-    omega (arith, count_all p xs h.1)
 
 -- of those that a test counts one can be had, with what holds of all
 pub counted : {X : Type 0} (p : X → Bool) (Q : X → Type 0) (R : Type 0) (xs : List X) → AllByRecursion Q xs → ((x : X) → Q x → p x ≡ true → R) → 1 ≤ count_by p xs → R
@@ -35,20 +16,17 @@ counted p Q R (x ∷ xs) h then le = by (p x) refl (counted p Q R xs h.1 then)
     by true e more = then x h.0 e
     by false e more =
         let c = count_cons p x xs in
-        let z = none_if (p x) e in
+        let z = as_many (p x) false e in
         more (omega arith)
-
-pub times_cons : (t x : List ℕ) (ts : List (List ℕ)) → times t (x ∷ ts) ≡ cond (bytes_eq t x) 1 0 + times t ts
-times_cons t x ts = count_cons (bytes_eq t) x ts
 
 pub among_times : (t : List ℕ) (ts : List (List ℕ)) → Among t ts → 1 ≤ times t ts
 among_times t [] m = absurd m
 among_times t (x ∷ ts) (inl e) =
-    let c = times_cons t x ts in
-    let y = one_if (bytes_eq t x) ((bytes_eq-Decides t x).1 e) in
+    let c = count_cons (bytes_eq t) x ts in
+    let y = as_many (bytes_eq t x) true ((bytes_eq-Decides t x).1 e) in
     omega arith
 among_times t (x ∷ ts) (inr m) =
-    let c = times_cons t x ts in
+    let c = count_cons (bytes_eq t) x ts in
     omega (arith, among_times t ts m)
 
 pub times_among : (t : List ℕ) (ts : List (List ℕ)) → 1 ≤ times t ts → Among t ts
@@ -58,8 +36,8 @@ times_among t (x ∷ ts) le = by (bytes_eq t x) refl (times_among t ts)
     by : (b : Bool) → bytes_eq t x ≡ b → (1 ≤ times t ts → Among t ts) → (t ≡ x) ⊎ Among t ts
     by true e more = inl ((bytes_eq-Decides t x).0 e)
     by false e more =
-        let c = times_cons t x ts in
-        let z = none_if (bytes_eq t x) e in
+        let c = count_cons (bytes_eq t) x ts in
+        let z = as_many (bytes_eq t x) false e in
         inr (more (omega arith))
 
 true_from : (b : Bool) → T b → b ≡ true

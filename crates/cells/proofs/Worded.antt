@@ -8,13 +8,18 @@ use Rattle.arborescence.specs.Heads.{TreeOver, worth_from}
 use Rattle.cells.specs.Cells.{pending}
 use Rattle.cells.specs.Accounts.{Cell, Among, times, holds, homes, over, Accounted}
 use Rattle.cells.specs.Words.{InWords, Worded}
-use Rattle.cells.proofs.Counts.{one_if, none_if, count_cons, among_times, times_among}
+use Rattle.queue.proofs.Counting.{as_many, count_cons, count_none}
+use Rattle.cells.proofs.Counts.{among_times, times_among}
+
+not_counted : (b : Bool) → ◌≡◌ {A = ℕ} (cond b 1 0) 0 → b ≡ false
+not_counted true e = absurd (omega arith)
+not_counted false e = refl
 
 module _ {X : Type 0} (p : X → Bool) where
   count_at : (xs : List X) (i : ℕ) (d : X) → i < length xs → p (get_or xs i d) ≡ true → 1 ≤ count_by p xs
   count_at xs i d l e =
       let a = get_or-le-sum_by (λ x. cond (p x) 1 0) xs i d l in
-      let b = one_if (p (get_or xs i d)) e in
+      let b = as_many (p (get_or xs i d)) true e in
       omega arith
 
   count_two : (xs : List X) (i j : ℕ) (d : X) → i < j → j < length xs → p (get_or xs i d) ≡ true → p (get_or xs j d) ≡ true → 2 ≤ count_by p xs
@@ -22,28 +27,15 @@ module _ {X : Type 0} (p : X → Bool) where
   count_two (x ∷ xs) i zero d l m e f = absurd (omega arith)
   count_two (x ∷ xs) zero (suc j) d l m e f =
       let c = count_cons p x xs in
-      let b = one_if (p x) e in
+      let b = as_many (p x) true e in
       omega (arith, count_at xs j d (omega arith) f)
   count_two (x ∷ xs) (suc i) (suc j) d l m e f =
       let c = count_cons p x xs in
       omega (arith, count_two xs i j d (omega arith) (omega arith) e f)
 
-  count_none : (xs : List X) → count_by p xs ≡ 0 → AllByRecursion (λ x. p x ≡ false) xs
-  count_none [] e = tt
-  count_none (x ∷ xs) e =
-      let c = count_cons p x xs in
-      (by (cases_Bool (p x)), count_none xs (omega arith))
-    where
-      by : (p x ≡ true) ⊎ (p x ≡ false) → p x ≡ false
-      by (inl t) = absurd (let c = count_cons p x xs in let b = one_if (p x) t in omega arith)
-      by (inr f) = f
-
-  none_count : (xs : List X) → AllByRecursion (λ x. p x ≡ false) xs → count_by p xs ≡ 0
-  none_count [] h = refl
-  none_count (x ∷ xs) h =
-      let c = count_cons p x xs in
-      let b = none_if (p x) h.0 in
-      omega (arith, none_count xs h.1)
+  none_counted : (xs : List X) → count_by p xs ≡ 0 → AllByRecursion (λ x. p x ≡ false) xs
+  none_counted [] e = tt
+  none_counted (x ∷ xs) e = let c = count_cons p x xs in (not_counted (p x) (omega arith), none_counted xs (omega arith))
 
 module _ (n : ℕ) (Tree : List ℕ → Type 0) (value : List ℕ → Worth) {X : Type 0} (view : X → Cell) (limit : ℕ) where
   pub in_words : (ts : List (List ℕ)) (u : Cell) (p : ℕ) (cs : List X) → Accounted n Tree value view limit ts u p cs → InWords n Tree value view limit ts u p cs
@@ -52,11 +44,11 @@ module _ (n : ℕ) (Tree : List ℕ → Type 0) (value : List ℕ → Worth) {X 
     untaken = λ t is m.
         let a = among_times t ts m in
         let o = k.once t is in
-        (count_none (λ c. holds t (view c)) cs (omega arith), left t (cases_Bool _) (omega arith));
+        (none_counted (λ c. holds t (view c)) cs (omega arith), not_counted _ (omega arith));
     aside = λ t is e.
-        let a = one_if (pending n u.heads u.from u.banned p t) e in
+        let a = as_many (pending n u.heads u.from u.banned p t) true e in
         let o = k.once t is in
-        count_none (λ c. holds t (view c)) cs (omega arith);
+        none_counted (λ c. holds t (view c)) cs (omega arith);
     found = λ t is. found t (k.found t is) (cases_lt 0 (times t ts)) (cases_Bool (pending n u.heads u.from u.banned p t));
   }
     where
@@ -65,18 +57,14 @@ module _ (n : ℕ) (Tree : List ℕ → Type 0) (value : List ℕ → Worth) {X 
       apart t is i j d li lj a b (inr (inl l)) ne = let o = k.once t is in omega (arith, count_two (λ c. holds t (view c)) cs i j d l lj a b)
       apart t is i j d li lj a b (inr (inr l)) ne = let o = k.once t is in omega (arith, count_two (λ c. holds t (view c)) cs j i d l li b a)
 
-      left : (t : List ℕ) → (pending n u.heads u.from u.banned p t ≡ true) ⊎ (pending n u.heads u.from u.banned p t ≡ false) → cond (pending n u.heads u.from u.banned p t) 1 0 ≤ 0 → pending n u.heads u.from u.banned p t ≡ false
-      left t (inl e) le = absurd (let b = one_if (pending n u.heads u.from u.banned p t) e in omega arith)
-      left t (inr e) le = e
-
       found : (t : List ℕ) → (1 ≤ homes n Tree value view ts u p cs t) ⊎ (limit ≤ length ts + over n Tree value view cs t) → (0 < times t ts) ⊎ (times t ts ≤ 0) → (pending n u.heads u.from u.banned p t ≡ true) ⊎ (pending n u.heads u.from u.banned p t ≡ false) →
           Among t ts ⊎ ((pending n u.heads u.from u.banned p t ≡ true) ⊎ ((AllByRecursion (λ c. holds t (view c) ≡ false) cs → ⊥) ⊎ (limit ≤ length ts + over n Tree value view cs t)))
       found t h (inl l) e = inl (times_among t ts l)
       found t h (inr l) (inl e) = inr (inl e)
       found t (inl h) (inr l) (inr e) =
           inr (inr (inl (λ all.
-          let c = none_count (λ c. holds t (view c)) cs all in
-          let b = none_if (pending n u.heads u.from u.banned p t) e in
+          let c = count_none (λ c. holds t (view c)) cs all in
+          let b = as_many (pending n u.heads u.from u.banned p t) false e in
           omega arith)))
       found t (inr h) (inr l) (inr e) = inr (inr (inr h))
 

@@ -1,6 +1,7 @@
 -- Cells of trees. A tree is its list of heads, one for each word. A cell is given by heads, a word `from` and a test of banned heads:
 -- it has the trees with these heads at the words before `from`, and at `from` a head that is not banned.
-use Rattle.std.specs.Prelude.{◌≡◌, ℕ, suc, ◌<◌, ◌≤◌, Bool, false, cond, not, ◌&&◌, ◌||◌, List, [], ◌∷◌, length, ◌==◌, ◌≢◌, nat_le}
+use Rattle.std.specs.Prelude.{◌≡◌, ℕ, ◌<◌, ◌≤◌, Bool, false, not, ◌&&◌, ◌||◌, List, ◌∷◌, length, ◌==◌, ◌≢◌, nat_le}
+use Rattle.std.specs.List.{common_prefix_len}
 use Rattle.tree.specs.Chains.{Word, head_of}
 
 pub record InCell (heads : List ℕ) (from : ℕ) (banned : ℕ → Bool) (t : List ℕ) : Type 0 where
@@ -37,15 +38,9 @@ Parts =
     Partition n heads from banned
 
 -- ---- the same as tests
--- at how many places two lists agree before the first where they do not
-abbrev pub alike : List ℕ → List ℕ → ℕ
-alike [] ys = 0
-alike (x ∷ xs) [] = 0
-alike (x ∷ xs) (y ∷ ys) = cond (x == y) (suc (alike xs ys)) 0
-
 -- the first word where they differ; one past the last if they do not
 abbrev pub apart_at : List ℕ → List ℕ → ℕ
-apart_at t heads = alike (0 ∷ t) (0 ∷ heads)
+apart_at t heads = common_prefix_len ◌==◌ (0 ∷ t) (0 ∷ heads)
 
 abbrev pub in_cell : List ℕ → ℕ → (ℕ → Bool) → List ℕ → Bool
 in_cell heads from banned t = nat_le from (apart_at t heads) && not (banned (head_of t from))

@@ -6,7 +6,7 @@ use Rattle.std.proofs.lemmas.List.{get_or_append_left, get_or-append_right, get_
 use Rattle.std.proofs.lemmas.List.Sorted.{IsPermutation-sym, IsPermutation-trans, IsPermutation-cons, IsPermutation-to_front, IsPermutation-swap, length_permutation}
 use Rattle.queue.specs.Heap.{Ordered, Greatest, Least, Rising, Sinking}
 use Rattle.queue.specs.Calls.{Pushed, Popped, Dropped}
-use Rattle.queue.proofs.Counting.{counts_more, counts_less, counts_for}
+use Rattle.queue.proofs.Counting.{counts_with, counts_for}
 use Rattle.queue.proofs.Heaps.{Exchanged, by, over}
 
 module _ {X : Type 0} (above : X → X → Bool) (o : IsStrictWeakOrder above) where
@@ -31,7 +31,7 @@ module _ {X : Type 0} (above : X → X → Bool) (o : IsStrictWeakOrder above) w
         room = room;
         more = refl;
         same = same;
-        counts = counts_more x _ _ same;
+        counts = counts_with x _ _ same;
         rest = drop_at zs _ (len + 1) long ∙ drop-set-lt (len + 1) xs len x (omega arith);
         ordered = λ h. subst (Ordered above) (sym front) (r (subst (λ l. Rising above l len) (sym is) (subst (Rising above (ws ++ x ∷ [])) n (grown ws x h))));
       }
@@ -68,7 +68,7 @@ module _ {X : Type 0} (above : X → X → Bool) (o : IsStrictWeakOrder above) w
         some = omega arith;
         within = within;
         same = same;
-        counts = counts_less x _ _ same;
+        counts = counts_with x _ _ (IsPermutation-sym _ _ same);
         left = λ d. sym (ap (λ n. get_or (ws ++ drop len xs) n d) e) ∙ get_or_append_left ws (drop len xs) d m (omega arith) ∙ left d;
         rest = drop_at ws _ len long;
         ordered = λ h. subst (Ordered above) front (r h);

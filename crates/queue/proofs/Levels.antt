@@ -2,34 +2,13 @@
 use Rattle.std.proofs.Common.{◌≡◌, ℕ, ◌+◌, ◌-◌, ◌<◌, ◌≤◌, Bool, true, false, cond, List, [], ◌∷◌, length, get_or, take, drop, count_by, refl, ap, ◌∙◌, arith, length-drop}
 use Rattle.std.specs.Cmp.{IsStrictWeakOrder}
 use Rattle.std.specs.List.Sorted.{IsPermutation}
-use Rattle.std.specs.List.{AllByRecursion}
 use Rattle.std.proofs.ByRecursion.{All-from_get_or}
 use Rattle.std.proofs.lemmas.List.{get_or-take, get_or-drop, length-take-le}
-use Rattle.std.proofs.lemmas.List.Sorted.{sum_by-IsPermutation, length_permutation, IsPermutation-sym}
-use Rattle.std.proofs.lemmas.List.Sums.{sum_by-cons, sum_by-take-drop, count_by-le-length}
+use Rattle.std.proofs.lemmas.List.Sorted.{length_permutation, IsPermutation-sym}
+use Rattle.std.proofs.lemmas.List.Sums.{sum_by-take-drop, count_by-le-length}
 use Rattle.queue.specs.Runs.{Falls, Level}
+use Rattle.queue.proofs.Counting.{count_all, count_none, count_shuffled}
 use Rattle.queue.proofs.Heaps.{by}
-
-one_if : (b : Bool) → b ≡ true → ◌≡◌ {A = ℕ} (cond b 1 0) 1
-one_if b e = ap (λ (x : Bool). cond {A = ℕ} x 1 0) e
-
-none_if : (b : Bool) → b ≡ false → ◌≡◌ {A = ℕ} (cond b 1 0) 0
-none_if b e = ap (λ (x : Bool). cond {A = ℕ} x 1 0) e
-
-module _ {X : Type 0} (p : X → Bool) where
-  count_all : (xs : List X) → AllByRecursion (λ x. p x ≡ true) xs → count_by p xs ≡ length xs
-  count_all [] h = refl
-  count_all (x ∷ xs) h =
-      let c = sum_by-cons (λ y. cond (p y) 1 0) x xs in
-      let e = one_if (p x) h.0 in
-      omega (arith, count_all xs h.1)
-
-  count_none : (xs : List X) → AllByRecursion (λ x. p x ≡ false) xs → count_by p xs ≡ 0
-  count_none [] h = refl
-  count_none (x ∷ xs) h =
-      let c = sum_by-cons (λ y. cond (p y) 1 0) x xs in
-      let e = none_if (p x) h.0 in
-      omega (arith, count_none xs h.1)
 
 module _ {X : Type 0} (above : X → X → Bool) (o : IsStrictWeakOrder above) where
   -- what outranks y outranks what y is not outranked by
@@ -38,7 +17,7 @@ module _ {X : Type 0} (above : X → X → Bool) (o : IsStrictWeakOrder above) w
     where
       case : (b : Bool) → above a z ≡ b → above a z ≡ true
       case true e = e
-      case false e = let u = one_if _ t in let v = none_if _ (o.chain a z y e f) in absurd (omega arith)
+      case false e = let u = o.chain a z y e f in cc
 
   module _ (xs ys : List X) (s : IsPermutation xs ys) (fx : Falls above xs) (fy : Falls above ys) (i : ℕ) (d : X) (lt : i < length xs) where
     long : length ys ≡ length xs
@@ -71,7 +50,7 @@ module _ {X : Type 0} (above : X → X → Bool) (o : IsStrictWeakOrder above) w
         case true e =
             let a = few in
             let b = many e in
-            let c = sum_by-IsPermutation (λ y. cond (above (get_or xs i d) y) 1 0) xs ys s in
+            let c = count_shuffled (above (get_or xs i d)) xs ys s in
             absurd (omega arith)
 
   pub level : (xs ys : List X) → IsPermutation xs ys → Falls above xs → Falls above ys → Level above xs ys
