@@ -1,4 +1,4 @@
-use Rattle.std.proofs.Common.{◌≡◌, ℕ, zero, suc, ◌+◌, ◌<◌, ◌≤◌, Bool, true, false, not, ◌&&◌, eqb, leb, ◌⊎◌, List, length, set, Some, sym, refl, ap, ◌∙◌, subst, inl, inr, arith}
+use Rattle.std.proofs.Common.{◌≡◌, ℕ, ◌+◌, ◌-◌, ◌<◌, ◌≤◌, Bool, true, false, not, ◌&&◌, eqb, leb, ◌⊎◌, List, length, set, Some, sym, refl, ap, ◌∙◌, subst, inl, inr, arith}
 use Rattle.std.proofs.lemmas.Bool.{cases_eq, both_ways, eq-eqb, ne_eqb}
 use Rattle.weight.specs.Worth.{Worth, plus}
 use Rattle.tree.specs.Chains.{Word}
@@ -8,8 +8,8 @@ use Rattle.search.specs.declared.family.Node.{Node}
 use Rattle.word_set.specs.Bits.{in_set}
 use Rattle.search.specs.Arcs.{BestHead}
 use Rattle.search.proofs.Scan.{free_arc, arc_free}
-use Rattle.search.specs.Family.{Group, Begun}
-use Rattle.search.specs.State.{view, group_at, BegunAt, BegunTo}
+use Rattle.search.specs.Family.{Group, BegunAt, Begun}
+use Rattle.search.specs.State.{view, group_at}
 use Rattle.search.proofs.Steps.{group_set_same, group_set_other}
 
 module _ {K : Type 0} (f : K → Worth) (n : ℕ) (stands : ℕ → ℕ → Bool) (worth : ℕ → ℕ → Worth) (z : Worth) where
@@ -33,18 +33,11 @@ module _ {K : Type 0} (f : K → Worth) (n : ℕ) (stands : ℕ → ℕ → Bool
           covers = λ h d i. rw (whole h d i.word i.in_line, same, i.inside) (best.1 h (scan h d i));
         }
 
-  pub begin_more : (words : List (Node K)) (k : ℕ) (x : Node K) → 1 ≤ k → k < length words → BegunAt n stands worth z (view f x) k → BegunTo n stands worth z (group_at f words) k → BegunTo n stands worth z (group_at f (set words k x)) (k + 1)
+  pub begin_more : (words : List (Node K)) (k : ℕ) (x : Node K) → 1 ≤ k → k < length words → BegunAt n stands worth z (view f x) k → Begun n (k - 1) stands worth z (group_at f words) → Begun n (k + 1 - 1) stands worth z (group_at f (set words k x))
   begin_more words k x one l here old =
       let r : group_at f (set words k x) 0 ≡ group_at f words 0 = group_set_other f words k 0 x (λ e. omega arith) in
-      (ap (λ (g : Group). g.to) r ∙ old.0, ap (λ (g : Group). g.from) r ∙ old.1, λ w v lt. by w v lt (cases_eq w k))
+      record { top = ap (λ (g : Group). g.to) r ∙ old.top; root = ap (λ (g : Group). g.from) r ∙ old.root; words = λ w v. by w v (cases_eq w k) }
     where
-      by : (w : ℕ) → Word n w → w < k + 1 → (w ≡ k) ⊎ (w ≡ k → ⊥) → BegunAt n stands worth z (group_at f (set words k x) w) w
-      by w v lt (inl e) = subst (λ (y : ℕ). BegunAt n stands worth z (group_at f (set words k x) y) y) (sym e) (subst (λ (g : Group). BegunAt n stands worth z g k) (sym (group_set_same f words k x l)) here)
-      by w v lt (inr e) = subst (λ (g : Group). BegunAt n stands worth z g w) (sym (group_set_other f words k w x e)) (old.2 w v (omega arith))
-
-  pub begin_done : (base : ℕ → Group) (k : ℕ) → n < k → BegunTo n stands worth z base k → Begun n stands worth z base
-  begin_done base k lt b = record { own = own; root = b.1; single = λ w v. (b.2 w v (omega arith)).single; arc = λ w v. (b.2 w v (omega arith)).arc; valued = λ w v. (b.2 w v (omega arith)).valued; covers = λ w v. (b.2 w v (omega arith)).covers }
-    where
-      own : (w : ℕ) → w ≤ n → (base w).to ≡ w
-      own zero le = b.0
-      own (suc w) le = (b.2 (suc w) (omega arith) (omega arith)).own
+      by : (w : ℕ) → Word (k + 1 - 1) w → (w ≡ k) ⊎ (w ≡ k → ⊥) → BegunAt n stands worth z (group_at f (set words k x) w) w
+      by w v (inl e) = subst (λ (y : ℕ). BegunAt n stands worth z (group_at f (set words k x) y) y) (sym e) (subst (λ (g : Group). BegunAt n stands worth z g k) (sym (group_set_same f words k x l)) here)
+      by w v (inr e) = subst (λ (g : Group). BegunAt n stands worth z g w) (sym (group_set_other f words k w x e)) (old.words w (v.0, omega (arith, v.1)))

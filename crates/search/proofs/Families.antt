@@ -36,7 +36,7 @@ module _ (n : ℕ) (stands : ℕ → ℕ → Bool) (worth : ℕ → ℕ → Wort
     valid_sets (m ∷ ms) valid = merged_sets n (rep_of ms) (in_set m.members) m.to (valid_sets ms valid.0) valid.1.union
 
     pub entered : (ms : List Group) → Valid n stands worth z base ms → (ℓ : ℕ) → Leader n (rep_of ms) ℓ → Entered n stands worth z base ms ℓ
-    entered [] valid ℓ lead = record { arc = valid.arc ℓ lead.word; valued = valid.valued ℓ lead.word; covers = valid.covers ℓ lead.word }
+    entered [] valid ℓ lead = let b = valid.words ℓ lead.word in record { arc = b.arc; valued = b.valued; covers = b.covers }
     entered (m ∷ ms) valid ℓ lead = by (cases_Bool (in_set m.members ℓ)) (entered ms valid.0 ℓ)
       where
         by : (in_set m.members ℓ ≡ true) ⊎ (in_set m.members ℓ ≡ false) → (Leader n (rep_of ms) ℓ → Entered n stands worth z base ms ℓ) → Entered n stands worth z base (m ∷ ms) ℓ

@@ -1,11 +1,11 @@
 -- From a heaviest arborescence over the root layer to a heaviest single-root tree
-use Rattle.std.proofs.Common.{◌≡◌, ℕ, zero, suc, ◌+◌, ◌-◌, ◌*◌, ◌^◌, ◌≤◌, Bool, true, false, cond, eqb, List, [], ◌∷◌, ◌++◌, length, get_or, take, drop, pos, negsuc, sym, ap, ◌∙◌, arith}
+use Rattle.std.proofs.Common.{◌≡◌, ℕ, zero, suc, ◌+◌, ◌-◌, ◌*◌, ◌^◌, ◌≤◌, Bool, true, false, cond, eqb, List, [], ◌∷◌, ◌++◌, length, get_or, take, drop, pos, negsuc, sym, ap, ◌∙◌, add-one, arith}
 use Rattle.std.proofs.lemmas.List.{get_or-take, take-append-le, drop-append-le, take_all, drop_all}
 use Rattle.std.proofs.lemmas.Int.{ints}
 use Rattle.weight.specs.Range.{Range, Ranged, limit}
 use Rattle.weight.specs.Worth.{Worth, zeros, plus, Within}
 use Rattle.weight.proofs.Ranges.{entry_within}
-use Rattle.weight.proofs.Worths.{plus_comm, plus_none, plus_zeros, length_plus, within_more, outweighs_not}
+use Rattle.weight.proofs.Worths.{plus_comm, plus_assoc, plus_zeros, within_more, outweighs_not}
 use Rattle.tree.specs.Chains.{Word, head_of}
 use Rattle.arborescence.specs.Search.{Tree, tree_worth}
 use Rattle.arborescence.specs.Heads.{TreeOver, worth_from, rooted}
@@ -28,17 +28,13 @@ module _ {K : Type 0} (f : K → Worth) (p : ℕ) (sized : (x : K) → length (f
       by h d true w = (omega (arith, ints), omega (arith, ints), w)
       by h d false w = (omega (arith, ints), omega (arith, ints), w)
 
--- a sum of arcs has as many places as each of them
-tree_length : (worth : ℕ → ℕ → Worth) (head : ℕ → ℕ) (p n : ℕ) → ((w : ℕ) → Word (suc n) w → length (worth (head w) w) ≡ p) → length (tree_worth worth head (suc n)) ≡ p
-tree_length worth head p zero each = ap length (plus_none (worth (head 1) 1)) ∙ each 1 (omega arith)
-tree_length worth head p (suc n) each =
-    let here = each (suc (suc n)) (omega arith) in
-    let rest = tree_length worth head p n (λ w v. each w (omega arith)) in
-    length_plus (worth (head (suc (suc n))) (suc (suc n))) (tree_worth worth head (suc n)) (here ∙ sym rest) ∙ here
-
+-- a sum of arcs has all its places
 pub total_is : (worth : ℕ → ℕ → Worth) (head : ℕ → ℕ) (p n : ℕ) → 1 ≤ n → ((w : ℕ) → Word n w → length (worth (head w) w) ≡ p) → plus (zeros p) (tree_worth worth head n) ≡ tree_worth worth head n
 total_is worth head p zero le each = absurd (omega arith)
-total_is worth head p (suc n) le each = plus_comm (zeros p) (tree_worth worth head (suc n)) ∙ plus_zeros (tree_worth worth head (suc n)) p (tree_length worth head p n each)
+total_is worth head p (suc n) le each =
+    let a : Worth = worth (head (suc n)) (suc n) in
+    let rest : Worth = tree_worth worth head n in
+    sym (plus_assoc (zeros p) a rest) ∙ ap (λ (x : Worth). plus x rest) (plus_comm (zeros p) a ∙ plus_zeros a p (each (suc n) (omega arith)))
 
 -- ---- what is told
 pub no_tree : (n : ℕ) (stands : ℕ → ℕ → Bool) → ((head : ℕ → ℕ) → Tree n stands head → ⊥) → (t : List ℕ) → TreeOver n stands t → ⊥
@@ -66,6 +62,10 @@ module _ (n : ℕ) (some : 1 ≤ n) (stands : ℕ → ℕ → Bool) (worth : ℕ
       }
 
 -- ---- the front of a space, and its rest
+-- the head of the word at place i, among the first n heads
+pub head_next : (n : ℕ) (heads : List ℕ) (i : ℕ) → i + 1 ≤ n → head_of heads (i + 1) ≡ get_or (take n heads) i 0
+head_next n heads i le = rw (add-one i) (sym (get_or-take n heads i 0 (omega arith)))
+
 pub front_head : (n : ℕ) (heads : List ℕ) (w : ℕ) → Word n w → head_of (take n heads) w ≡ head_of heads w
 front_head n heads zero v = absurd (omega arith)
 front_head n heads (suc i) v = get_or-take n heads i 0 (omega arith)

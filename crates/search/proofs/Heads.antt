@@ -1,26 +1,17 @@
-use Rattle.std.proofs.Common.{◌≡◌, ℕ, zero, suc, ◌-◌, ◌^◌, ◌<◌, ◌≤◌, Bool, true, false, ◌&&◌, ◌||◌, eqb, ◌⊎◌, List, [], ◌∷◌, All, length, set, sym, refl, ap, ◌∙◌, subst, inl, inr, arith}
-use Rattle.std.proofs.lemmas.List.{get_or-set_same, get_or-set_other}
-use Rattle.std.proofs.lemmas.Bool.{both_ways, and_parts, eqb-true}
+use Rattle.std.proofs.Common.{◌≡◌, ℕ, zero, suc, ◌^◌, ◌<◌, ◌≤◌, Bool, true, false, ◌&&◌, ◌||◌, eqb, ◌⊎◌, List, [], ◌∷◌, All, sym, refl, ap, ◌∙◌, subst, inl, inr, arith}
+use Rattle.std.proofs.lemmas.Bool.{both_ways, and_parts, or_cases, eqb-true}
 use Rattle.weight.specs.Worth.{Worth, zeros, plus}
-use Rattle.tree.specs.Chains.{Word, head_of}
+use Rattle.tree.specs.Chains.{Word}
 use Rattle.word_set.specs.Bits.{in_set}
 use Rattle.word_set.proofs.Sets.{in_set_empty, lowest_in}
 use Rattle.search.specs.Family.{Group, Valid}
-use Rattle.search.specs.Opening.{Opened, Meets, Lined, Ended, Opens}
+use Rattle.search.specs.Opening.{Opened, Lined, Ended, Opens}
 use Rattle.search.proofs.Stages.{valid_begun, valid_laid}
 use Rattle.search.proofs.Openings.{goal_of, open_start, open_done, open_own, open_end}
 
-pub heads_here : (heads : List ℕ) (w x : ℕ) → 1 ≤ w → w ≤ length heads → head_of (set heads (w - 1) x) w ≡ x
-heads_here heads zero x a b = absurd (omega arith)
-heads_here heads (suc i) x a b = let e : suc i - 1 ≡ i = omega arith in rw e (get_or-set_same heads i x 0 (omega arith))
-
-pub heads_there : (heads : List ℕ) (w x v : ℕ) → 1 ≤ w → (v ≡ w → ⊥) → head_of (set heads (w - 1) x) v ≡ head_of heads v
-heads_there heads w x zero a ne = refl
-heads_there heads w x (suc j) a ne = let q : j ≡ w - 1 → ⊥ = λ e. ne (omega arith) in get_or-set_other heads (w - 1) j x 0 q
-
 module _ (n : ℕ) (stands : ℕ → ℕ → Bool) (worth : ℕ → ℕ → Worth) (z : Worth) (nought : (h d : ℕ) → Word n d → h ≤ n → plus (worth h d) z ≡ worth h d) (base : ℕ → Group) where
   pub lined : (ms : List Group) → Valid n stands worth z base ms → Lined n base ms
-  lined ms valid = record { words = λ w v. ((valid_begun n stands worth z nought base ms valid).arc w v).in_line; sets = each ms valid }
+  lined ms valid = record { words = λ w v. ((valid_begun n stands worth z nought base ms valid).words w v).arc.in_line; sets = each ms valid }
     where
       each : (ms : List Group) → Valid n stands worth z base ms → All (λ m. Word n m.to × (m.from ≤ n)) ms
       each [] valid k d lt = absurd (omega arith)
@@ -34,7 +25,7 @@ pub record Left (p n : ℕ) (base : ℕ → Group) (all ms : List Group) (done :
   pub opened : (stands : ℕ → ℕ → Bool) (worth : ℕ → ℕ → Worth) → Ended p n stands worth base all → Valid n stands worth (zeros (suc p)) base ms × Opened n stands worth (zeros (suc p)) base ms (goal_of n base all) done head
 
 -- a word that two sets share, where what they share is not empty
-meeting : {n : ℕ} (a b shared : ℕ) → shared < 2 ^ 64 → (shared ≡ 0 → ⊥) → ((v : ℕ) → in_set shared v ≡ (in_set a v && in_set b v)) → ((v : ℕ) → in_set b v ≡ true → Word n v) → Meets n a b true
+meeting : {n : ℕ} (a b shared : ℕ) → shared < 2 ^ 64 → (shared ≡ 0 → ⊥) → ((v : ℕ) → in_set shared v ≡ (in_set a v && in_set b v)) → ((v : ℕ) → in_set b v ≡ true → Word n v) → (v : ℕ) × Word n v × (in_set a v ≡ true) × (in_set b v ≡ true)
 meeting a b shared few some is words =
     let at = lowest_in shared (omega (arith, some)) few in
     let p = and_parts (in_set a _) (in_set b _) (sym (is _) ∙ at.1) in
@@ -69,7 +60,7 @@ module _ (p n : ℕ) (base : ℕ → Group) (all : List Group) where
   left_own m ms done done' bit shared head head' none both is one here there left =
       record {
         lined = λ k d lt. left.lined (suc k) d (omega arith);
-        words = λ v t. word v (or_parts (in_set done v) (in_set bit v) (sym (is v) ∙ t));
+        words = λ v t. word v (or_cases (in_set done v) (in_set bit v) (sym (is v) ∙ t));
         opened = λ stands worth ended.
             let o = left.opened stands worth ended in
             (o.0.0, open_own n stands worth (zeros (suc p)) ended.sound.whole base m ms o.0 (goal_of n base all) done done' head head' o.1 (λ v w t. apart (in_set m.members v) (in_set done v) t (sym (both v) ∙ (ap (λ (x : ℕ). in_set x v) none ∙ in_set_empty v))) (λ v. is v ∙ ap (λ (b : Bool). in_set done v || b) (one v)) here (λ w v q. there w q));
@@ -78,10 +69,6 @@ module _ (p n : ℕ) (base : ℕ → Group) (all : List Group) where
       apart : (a b : Bool) → a ≡ true → (a && b) ≡ false → b ≡ false
       apart true b t e = e
       apart false b t e = absurd (both_ways false refl t)
-
-      or_parts : (a b : Bool) → (a || b) ≡ true → (a ≡ true) ⊎ (b ≡ true)
-      or_parts true b t = inl refl
-      or_parts false b t = inr t
 
       word : (v : ℕ) → (in_set done v ≡ true) ⊎ (in_set bit v ≡ true) → Word n v
       word v (inl t) = left.words v t

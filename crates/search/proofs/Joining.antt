@@ -1,6 +1,6 @@
-use Rattle.std.proofs.Common.{◌≡◌, ℕ, zero, suc, ◌+◌, ◌<◌, Bool, true, false, cond, ◌&&◌, ◌⊎◌, List, [], ◌∷◌, map, length, get_or, Some, sym, refl, ap, ◌∙◌, subst, inl, inr, arith}
-use Rattle.std.proofs.lemmas.Bool.{cases_Bool, both_ways}
-use Rattle.weight.specs.Worth.{Worth, plus, minus, AtMost}
+use Rattle.std.proofs.Common.{◌≡◌, ℕ, zero, suc, ◌+◌, ◌<◌, Bool, true, cond, ◌&&◌, List, [], ◌∷◌, map, length, get_or, Some, sym, refl, ap, ◌∙◌, subst, arith}
+use Rattle.std.proofs.lemmas.Bool.{false_from_ne_true, both_ways}
+use Rattle.weight.specs.Worth.{Worth, zeros, plus, minus, AtMost}
 use Rattle.tree.specs.Chains.{Word}
 use Rattle.arborescence.specs.Sum.{sum_if}
 use Rattle.arborescence.specs.Search.{Tree, leads, Into, Union, merged, raised}
@@ -9,7 +9,6 @@ use Rattle.arborescence.proofs.Merged as merges
 use Rattle.arborescence.proofs.Above as above
 use Rattle.search.specs.declared.arcs.Entering.{Entering}
 use Rattle.word_set.specs.Bits.{in_set}
-use Rattle.weight.specs.Worth.{zeros}
 use Rattle.weight.specs.Layers.{root_worth}
 use Rattle.search.specs.Arcs.{Best, SetArc, with_potential}
 use Rattle.search.specs.Family.{Group, rep_of, best_of, add_of, Joined, Valid}
@@ -36,12 +35,8 @@ module _ {K : Type 0} (f : K → Worth) (p n : ℕ) (stands : ℕ → ℕ → Bo
           in_line = i.in_line;
           standing = i.standing;
           within = merges.same_side n (rep_of ms) (in_set S) s laid.sets union d s i.word.1 i.inside ∙ s-in;
-          outside = by (cases_Bool (in_set S h));
+          outside = false_from_ne_true (in_set S h) (λ t. i.outside (merges.in_S n (rep_of ms) (in_set S) s laid.sets union h t));
         }
-      where
-        by : (in_set S h ≡ true) ⊎ (in_set S h ≡ false) → in_set S h ≡ false
-        by (inl t) = absurd (i.outside (merges.in_S n (rep_of ms) (in_set S) s laid.sets union h t))
-        by (inr e) = e
 
     pub from_scan : (h d : ℕ) → SetArc n (n + 1) stands S h d → Into n stands (merged (in_set S) s (rep_of ms)) s h d
     from_scan h d a =
@@ -74,9 +69,6 @@ module _ {K : Type 0} (f : K → Worth) (p n : ℕ) (stands : ℕ → ℕ → Bo
         Valid n stands worth (zeros (suc p)) base (m ∷ ms)
     valid_after valid ring e best m is = subst (λ (g : Group). Valid n stands worth (zeros (suc p)) base (g ∷ ms)) (sym is) (valid, joined)
       where
-        k : Group
-        k = record { members = S; from = e.from; to = e.to; value = root_worth f e.value }
-
         a : SetArc n (n + 1) stands S e.from e.to
         a = best.0
 

@@ -1,5 +1,4 @@
 mod Counts
-mod Held
 mod Scan
 mod Records
 mod Families

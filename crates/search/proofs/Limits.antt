@@ -1,7 +1,7 @@
 -- How great the numbers get, and how many merges there are
 use Rattle.std.proofs.Common.{◌≡◌, ℕ, zero, suc, ◌+◌, ◌-◌, ◌*◌, ◌^◌, ◌≤◌, Bool, true, not, ◌&&◌, eqb, List, [], ◌∷◌, length, refl, ap, ◌∙◌, subst, arith}
 use Rattle.std.proofs.lemmas.Bool.{and_from, eq-eqb, ne_eqb, both_ways}
-use Rattle.weight.specs.Worth.{Worth, plus, Within}
+use Rattle.weight.specs.Worth.{Worth, zeros, plus, Within}
 use Rattle.tree.specs.Chains.{Word}
 use Rattle.arborescence.specs.Sum.{sum_if, count_if}
 use Rattle.arborescence.specs.Search.{Leader, leads, Union, merged, raised}
@@ -12,7 +12,6 @@ use Rattle.arborescence.proofs.Sums.{count_out, count_split}
 use Rattle.arborescence.proofs.Bounded.{sized_merge}
 use Rattle.arborescence.proofs.Merged as merges
 use Rattle.word_set.specs.Bits.{in_set}
-use Rattle.weight.specs.Worth.{zeros}
 use Rattle.search.specs.Arcs.{Sound}
 use Rattle.search.specs.Family.{Group, rep_of, from_of, best_of, add_of, size_of, Valid}
 use Rattle.search.specs.Ring.{Laid, Ring}
@@ -66,12 +65,6 @@ module _ (p n : ℕ) (few : n ≤ 40) (stands : ℕ → ℕ → Bool) (worth : �
         within_more ((2 ^ 20) * (merged_size (in_set S) n (rep_of ms) (size_of n ms) (merged (in_set S) s (rep_of ms) w) - 1)) (2 ^ 26) _ (omega arith) (sm.small w v)
 
     -- ---- each merge leaves fewer sets
-    ones : ℕ → ℕ
-    ones _ = 1
-
-    inner : ℕ → Bool
-    inner ℓ = leads (rep_of ms) ℓ && in_set S ℓ
-
     two_in : 2 ≤ count_if (λ ℓ. leads (rep_of ms) ℓ && in_set S ℓ) (λ _. 1) n
     two_in =
         let w = ring.some.0 in

@@ -1,9 +1,10 @@
-use Rattle.std.proofs.Common.{◌≡◌, ℕ, zero, suc, ◌≤◌, Bool, true, false, ◌||◌, eqb, ◌⊎◌, List, [], ◌∷◌, sym, refl, ap, ◌∙◌, subst, inl, inr, arith}
-use Rattle.std.proofs.lemmas.Bool.{cases_Bool, cases_eq, both_ways, cond-true, cond-false, eq-eqb, ne_eqb}
+use Rattle.std.proofs.Common.{◌≡◌, ℕ, zero, suc, ◌≤◌, Bool, true, false, ◌||◌, eqb, ◌⊎◌, ⊎_elim, List, [], ◌∷◌, sym, refl, ap, ◌∙◌, subst, inl, inr, arith}
+use Rattle.std.proofs.Math.Bool.{or-false}
+use Rattle.std.proofs.lemmas.Bool.{cases_Bool, cases_eq, both_ways, false_from_ne_true, or_right, cond-true, cond-false, eq-eqb, ne_eqb}
 use Rattle.weight.specs.Worth.{Worth, plus, AtMost}
 use Rattle.tree.specs.Chains.{Word, up, Reaches}
 use Rattle.arborescence.specs.Sum.{sum_if}
-use Rattle.arborescence.specs.Search.{Tree, tree_worth, Sets, Leader, leads, Built, Union, Circle, merged, raised}
+use Rattle.arborescence.specs.Search.{Tree, tree_worth, Sets, Leader, leads, Built, Union, Circle}
 use Rattle.weight.proofs.Worths.{at_most_trans}
 use Rattle.arborescence.proofs.Sums.{at_most_eq, sum_le, sum_same}
 use Rattle.arborescence.proofs.Merged as merges
@@ -27,9 +28,6 @@ module _ (n : ℕ) (stands : ℕ → ℕ → Bool) (worth : ℕ → ℕ → Wort
       record { arc = λ ℓ l t. (e ℓ l).arc; within = valid.1.within; is_best = λ ℓ l t. at_most_eq _ _ (e ℓ l).valued; round = valid.1.round }
 
   module _ (m : Group) (ms : List Group) (valid : Valid n stands worth z base (m ∷ ms)) (goal : Worth) where
-    S : ℕ → Bool
-    S = in_set m.members
-
     sets : Sets n (rep_of ms)
     sets = valid_sets n stands worth z nought base ms valid.0
 
@@ -43,20 +41,14 @@ module _ (n : ℕ) (stands : ℕ → ℕ → Bool) (worth : ℕ → ℕ → Wort
     pub open_set : (done : ℕ) (head : ℕ → ℕ) (o : Opened n stands worth z base (m ∷ ms) goal done head) → EnteredBy n (m ∷ ms) done head o.built.from o.built.to m.to → Opened n stands worth z base ms goal done head
     open_set done head o by_word_lem = record { built = new; held = λ ℓ l. held ℓ l (cases_Bool (in_set m.members ℓ)) (cases_eq ℓ (rep_of ms (o.built.to m.to))); rest = o.rest }
       where
-        b : Built n stands worth (merged (in_set m.members) m.to (rep_of ms)) (raised (in_set m.members) n (rep_of ms) (add_of n z base ms) (best_of base ms)) goal
-        b = o.built
-
         new : Built n stands worth (rep_of ms) (add_of n z base ms) goal
         new = unmerge n stands worth (rep_of ms) (add_of n z base ms) (best_of base ms) (in_set m.members) m.to (from_of base ms) (λ ℓ. ℓ) goal sets union (circle m ms valid) o.built
 
-        closed : (v : ℕ) → Word n v → in_set m.members (rep_of ms v) ≡ in_set m.members v
-        closed v w = union.closed v w
-
         top : (v ℓ : ℕ) → Word n v → rep_of ms v ≡ ℓ → in_set m.members ℓ ≡ true → rep_of (m ∷ ms) v ≡ m.to
-        top v ℓ w e t = cond-true (in_set m.members v) m.to (rep_of ms v) (sym (closed v w) ∙ (ap (in_set m.members) e ∙ t))
+        top v ℓ w e t = cond-true (in_set m.members v) m.to (rep_of ms v) (sym (union.closed v w) ∙ (ap (in_set m.members) e ∙ t))
 
         out : (v ℓ : ℕ) → Word n v → rep_of ms v ≡ ℓ → in_set m.members ℓ ≡ false → rep_of (m ∷ ms) v ≡ ℓ
-        out v ℓ w e f = cond-false (in_set m.members v) m.to (rep_of ms v) (sym (closed v w) ∙ (ap (in_set m.members) e ∙ f)) ∙ e
+        out v ℓ w e f = cond-false (in_set m.members v) m.to (rep_of ms v) (sym (union.closed v w) ∙ (ap (in_set m.members) e ∙ f)) ∙ e
 
         outer : (ℓ : ℕ) → in_set m.members ℓ ≡ false → Leader n (rep_of ms) ℓ → (new.from ℓ ≡ o.built.from ℓ) × (new.to ℓ ≡ o.built.to ℓ) → Shut n base (m ∷ ms) done o.built.from o.built.to ℓ ⊎ EnteredBy n (m ∷ ms) done head o.built.from o.built.to ℓ →
             Shut n base ms done new.from new.to ℓ ⊎ EnteredBy n ms done head new.from new.to ℓ
@@ -66,28 +58,17 @@ module _ (n : ℕ) (stands : ℕ → ℕ → Bool) (worth : ℕ → ℕ → Wort
         held : (ℓ : ℕ) → Leader n (rep_of ms) ℓ → (in_set m.members ℓ ≡ true) ⊎ (in_set m.members ℓ ≡ false) → (ℓ ≡ rep_of ms (o.built.to m.to)) ⊎ (ℓ ≡ rep_of ms (o.built.to m.to) → ⊥) → Shut n base ms done new.from new.to ℓ ⊎ EnteredBy n ms done head new.from new.to ℓ
         held ℓ l (inl t) (inl q) =
             let e = unmerge_at n stands worth (rep_of ms) (add_of n z base ms) (best_of base ms) (in_set m.members) m.to (from_of base ms) (λ ℓ. ℓ) goal sets union (circle m ms valid) o.built ℓ t q in
-            inr (at ℓ t e)
-          where
-            at : (ℓ : ℕ) → in_set m.members ℓ ≡ true → (new.from ℓ ≡ o.built.from m.to) × (new.to ℓ ≡ o.built.to m.to) → EnteredBy n ms done head new.from new.to ℓ
-            at ℓ t e = record { is_done = subst (λ (x : ℕ). in_set done x ≡ true) (sym e.1) by_word_lem.is_done; is_head = ap head e.1 ∙ (by_word_lem.is_head ∙ sym e.0); only = λ v w r d. by_word_lem.only v w (top v ℓ w r t) d ∙ sym e.1 }
+            inr (record { is_done = subst (λ (x : ℕ). in_set done x ≡ true) (sym e.1) by_word_lem.is_done; is_head = ap head e.1 ∙ (by_word_lem.is_head ∙ sym e.0); only = λ v w r d. by_word_lem.only v w (top v ℓ w r t) d ∙ sym e.1 })
         held ℓ l (inl t) (inr q) =
             let e = unmerge_in n stands worth (rep_of ms) (add_of n z base ms) (best_of base ms) (in_set m.members) m.to (from_of base ms) (λ ℓ. ℓ) goal sets union (circle m ms valid) o.built ℓ t q in
-            inl (record { none = λ v w r. not_done v w r (cases_Bool (in_set done v)); own_from = e.0; own_to = e.1 })
-          where
-            not_done : (v : ℕ) → Word n v → rep_of ms v ≡ ℓ → (in_set done v ≡ true) ⊎ (in_set done v ≡ false) → in_set done v ≡ false
-            not_done v w r (inl d) = absurd (q (sym r ∙ ap (rep_of ms) (by_word_lem.only v w (top v ℓ w r t) d)))
-            not_done v w r (inr d) = d
+            inl (record { none = λ v w r. false_from_ne_true (in_set done v) (λ d. q (sym r ∙ ap (rep_of ms) (by_word_lem.only v w (top v ℓ w r t) d))); own_from = e.0; own_to = e.1 })
         held ℓ l (inr f) _ =
             outer ℓ f l (unmerge_out n stands worth (rep_of ms) (add_of n z base ms) (best_of base ms) (in_set m.members) m.to (from_of base ms) (λ ℓ. ℓ) goal sets union (circle m ms valid) o.built ℓ f)
             (o.held ℓ (record { word = l.word; own = cond-false (in_set m.members ℓ) m.to (rep_of ms ℓ) f ∙ l.own }))
 
     -- a word of the set has its head already
     pub open_done : (done : ℕ) (head : ℕ → ℕ) → Opened n stands worth z base (m ∷ ms) goal done head → (v : ℕ) → Word n v → in_set m.members v ≡ true → in_set done v ≡ true → Opened n stands worth z base ms goal done head
-    open_done done head o v w t d = open_set done head o (by (o.held m.to top_lead))
-      where
-        by : Shut n base (m ∷ ms) done o.built.from o.built.to m.to ⊎ EnteredBy n (m ∷ ms) done head o.built.from o.built.to m.to → EnteredBy n (m ∷ ms) done head o.built.from o.built.to m.to
-        by (inl a) = absurd (both_ways (in_set done v) (a.none v w (cond-true (in_set m.members v) m.to (rep_of ms v) t)) d)
-        by (inr a) = a
+    open_done done head o v w t d = open_set done head o (⊎_elim (λ a. absurd (both_ways (in_set done v) (a.none v w (cond-true (in_set m.members v) m.to (rep_of ms v) t)) d)) (λ a. a) (o.held m.to top_lead))
 
     -- none has: the set's own arc is taken
     pub open_own : (done done' : ℕ) (head head' : ℕ → ℕ) → Opened n stands worth z base (m ∷ ms) goal done head → ((v : ℕ) → Word n v → in_set m.members v ≡ true → in_set done v ≡ false) →
@@ -95,11 +76,7 @@ module _ (n : ℕ) (stands : ℕ → ℕ → Bool) (worth : ℕ → ℕ → Wort
     open_own done done' head head' o apart is here there = open_set done' head' (record { built = o.built; held = λ ℓ l. held ℓ l (cases_Bool (in_set m.members ℓ)); rest = rest }) entered_now
       where
         old : (v : ℕ) → (v ≡ m.to → ⊥) → in_set done' v ≡ in_set done v
-        old v ne = is v ∙ by (in_set done v) (eqb v m.to) (ne_eqb v m.to ne)
-          where
-            by : (a c : Bool) → c ≡ false → (a || c) ≡ a
-            by true c e = refl
-            by false c e = e
+        old v ne = is v ∙ rw (ne_eqb v m.to ne) (or-false (in_set done v))
 
         shut : Shut n base (m ∷ ms) done o.built.from o.built.to m.to
         shut = by (o.held m.to top_lead)
@@ -117,18 +94,10 @@ module _ (n : ℕ) (stands : ℕ → ℕ → Bool) (worth : ℕ → ℕ → Wort
         entered_now : EnteredBy n (m ∷ ms) done' head' o.built.from o.built.to m.to
         entered_now =
             record {
-              is_done = subst (λ (x : ℕ). in_set done' x ≡ true) (sym shut.own_to) (is m.to ∙ right (in_set done m.to) (eqb m.to m.to) (eq-eqb m.to m.to refl));
+              is_done = subst (λ (x : ℕ). in_set done' x ≡ true) (sym shut.own_to) (is m.to ∙ or_right (in_set done m.to) (eqb m.to m.to) (eq-eqb m.to m.to refl));
               is_head = ap head' shut.own_to ∙ (here ∙ sym (shut.own_from ∙ cond-true (in_set m.members m.to) m.from (from_of base ms m.to) union.inside));
-              only = λ v w e d. only v w e d (cases_eq v m.to) ∙ sym shut.own_to;
+              only = λ v w e d. ⊎_elim (λ q. q) (λ q. absurd (both_ways (in_set done v) (apart v w (in_top v w e)) (sym (old v q) ∙ d))) (cases_eq v m.to) ∙ sym shut.own_to;
             }
-          where
-            right : (a c : Bool) → c ≡ true → (a || c) ≡ true
-            right true c e = refl
-            right false c e = e
-
-            only : (v : ℕ) → Word n v → rep_of (m ∷ ms) v ≡ m.to → in_set done' v ≡ true → (v ≡ m.to) ⊎ (v ≡ m.to → ⊥) → v ≡ m.to
-            only v w e d (inl q) = q
-            only v w e d (inr q) = absurd (both_ways (in_set done v) (apart v w (in_top v w e)) (sym (old v q) ∙ d))
 
         rest : (w : ℕ) → Word n w → in_set done' w ≡ false → head' w ≡ (base w).from
         rest w v f = by (cases_eq w m.to)
@@ -186,9 +155,6 @@ module _ (n : ℕ) (stands : ℕ → ℕ → Bool) (worth : ℕ → ℕ → Wort
       let e = entered n stands worth z nought base ms valid in
       (is.0, λ other tree. at_most_trans _ _ _ (above.end n stands worth (rep_of ms) (add_of n z base ms) (best_of base ms) g.sets (λ ℓ l. (e ℓ l).covers) g.above other tree) (subst (AtMost (goal_of n base ms)) (sym is.1) t.1))
     where
-      b : Built n stands worth (λ w. w) (λ w. []) (goal_of n base ms)
-      b = record { from = o.built.from; to = o.built.to; arc = o.built.arc; arrives = o.built.arrives; enough = rw (id_arcs n stands worth z nought o.built.from o.built.to o.built.arc) at o.built.enough }
-
       t : Tree n stands o.built.from × AtMost (goal_of n base ms) (tree_worth worth o.built.from n)
       t = bottom_from n stands worth (goal_of n base ms) (record { from = o.built.from; to = o.built.to; arc = o.built.arc; arrives = o.built.arrives; enough = rw (id_arcs n stands worth z nought o.built.from o.built.to o.built.arc) at o.built.enough })
 

@@ -1,26 +1,13 @@
-use Rattle.std.proofs.Common.{◌≡◌, ℕ, zero, suc, ◌+◌, ◌<◌, ◌≤◌, Bool, true, false, cond, ◌||◌, eqb, ◌⊎◌, List, [], ◌∷◌, ◌++◌, map, reverse, length, get_or, take, take-suc, find, Some, Option, MatchOption, sym, refl, ap, ◌∙◌, subst, inl, inr, arith}
-use Rattle.std.proofs.lemmas.List.{get_or-map, reverse-append}
-use Rattle.std.proofs.lemmas.Bool.{cases_lt, cases_Bool, both_ways, eqb-true, eq-eqb}
+use Rattle.std.proofs.Common.{◌≡◌, ℕ, zero, suc, ◌+◌, ◌<◌, ◌≤◌, Bool, true, false, cond, ◌||◌, eqb, ◌⊎◌, List, [], ◌∷◌, ◌++◌, map, reverse, find, Some, Option, MatchOption, sym, refl, ap, ◌∙◌, subst, inl, inr, arith}
+use Rattle.std.proofs.lemmas.List.{reverse-append}
+use Rattle.std.proofs.lemmas.Bool.{cases_lt, cases_Bool, both_ways, or_left, or_right, or_cases, eqb-true, eq-eqb}
 use Rattle.weight.specs.Worth.{Worth}
 use Rattle.tree.specs.Chains.{up, Reaches}
 use Rattle.tree.proofs.Chains.{up_plus}
-use Rattle.search.proofs.Counts.{or_right}
 use Rattle.search.specs.declared.family.Node.{Node}
 use Rattle.word_set.specs.Bits.{in_set}
 use Rattle.search.specs.Family.{Group, entry, rep_of, from_of, best_of}
-use Rattle.search.specs.State.{view, blank, group_at, family}
-
--- the sets that were made, the newest first
-pub family_made : {K : Type 0} (f : K → Worth) (xs : List (Node K)) (j : ℕ) → j ≤ length xs → family (group_at f xs) j ≡ map (view f) (reverse (take j xs))
-family_made f xs zero le = refl
-family_made f [] (suc j) le = absurd (omega arith)
-family_made f (x ∷ xs) (suc j) le =
-    let l : j < length (x ∷ xs) = omega arith in
-    let y = get_or (x ∷ xs) j x in
-    let here : group_at f (x ∷ xs) j ≡ view f y = get_or-map (view f) (x ∷ xs) j x blank l in
-    let rest = family_made f (x ∷ xs) j (omega arith) in
-    let front : reverse (take (suc j) (x ∷ xs)) ≡ y ∷ reverse (take j (x ∷ xs)) = ap reverse (take-suc (x ∷ xs) j x l) ∙ reverse-append (take j (x ∷ xs)) (y ∷ []) in
-    ap (λ (g : Group). g ∷ family (group_at f (x ∷ xs)) j) here ∙ (ap (λ (l : List Group). view f y ∷ l) rest ∙ sym (ap (map (view f)) front))
+use Rattle.search.specs.State.{view}
 
 -- the newest of the sets in front of the others
 pub newest : {K : Type 0} (f : K → Worth) (xs rest : List (Node K)) (x : Node K) → xs ≡ rest ++ (x ∷ []) → map (view f) (reverse xs) ≡ view f x ∷ map (view f) (reverse rest)
@@ -35,30 +22,22 @@ entry_found f base w (x ∷ xs) o e = by (in_set x.members w) e (entry_found f b
     by true e more = rw e refl
     by false e more = more e
 
+cond_ap : {A B : Type 0} (h : A → B) (b : Bool) (x y : A) → h (cond b x y) ≡ cond b (h x) (h y)
+cond_ap h true x y = refl
+cond_ap h false x y = refl
+
 module _ (base : ℕ → Group) where
   pub entry_from : (ms : List Group) (w : ℕ) → (entry base ms w).from ≡ from_of base ms w
   entry_from [] w = refl
-  entry_from (m ∷ ms) w = by (in_set m.members w) (entry_from ms w)
-    where
-      by : (b : Bool) → (entry base ms w).from ≡ from_of base ms w → (cond b m (entry base ms w)).from ≡ cond b m.from (from_of base ms w)
-      by true e = refl
-      by false e = e
+  entry_from (m ∷ ms) w = cond_ap (λ (g : Group). g.from) (in_set m.members w) m (entry base ms w) ∙ ap (cond (in_set m.members w) m.from) (entry_from ms w)
 
   pub entry_value : (ms : List Group) (w : ℕ) → (entry base ms w).value ≡ best_of base ms w
   entry_value [] w = refl
-  entry_value (m ∷ ms) w = by (in_set m.members w) (entry_value ms w)
-    where
-      by : (b : Bool) → (entry base ms w).value ≡ best_of base ms w → (cond b m (entry base ms w)).value ≡ cond b m.value (best_of base ms w)
-      by true e = refl
-      by false e = e
+  entry_value (m ∷ ms) w = cond_ap (λ (g : Group). g.value) (in_set m.members w) m (entry base ms w) ∙ ap (cond (in_set m.members w) m.value) (entry_value ms w)
 
   pub entry_to : (n : ℕ) → ((w : ℕ) → w ≤ n → (base w).to ≡ w) → (ms : List Group) (w : ℕ) → w ≤ n → (entry base ms w).to ≡ rep_of ms w
   entry_to n own [] w le = own w le
-  entry_to n own (m ∷ ms) w le = by (in_set m.members w) (entry_to n own ms w le)
-    where
-      by : (b : Bool) → (entry base ms w).to ≡ rep_of ms w → (cond b m (entry base ms w)).to ≡ cond b m.to (rep_of ms w)
-      by true e = refl
-      by false e = e
+  entry_to n own (m ∷ ms) w le = cond_ap (λ (g : Group). g.to) (in_set m.members w) m (entry base ms w) ∙ ap (cond (in_set m.members w) m.to) (entry_to n own ms w le)
 
 pub up_last : (h : ℕ → ℕ) (k w : ℕ) → up h (suc k) w ≡ h (up h k w)
 up_last h zero w = refl
@@ -77,10 +56,6 @@ leads_more h seen bit seen' w w' is one step leads x t = by (cases_Bool (in_set 
         let e : eqb x w ≡ true = sym (one x) ∙ (sym (ap (λ (b : Bool). b || in_set bit x) s) ∙ (sym (is x) ∙ t)) in
         (0, ap h (eqb-true x w e) ∙ sym step)
 
-pub or_left : (a b : Bool) → a ≡ true → (a || b) ≡ true
-or_left true b e = refl
-or_left false b e = absurd (both_ways false refl e)
-
 -- a step of the walk keeps the start in sight
 pub start_seen : (seen bit seen' w start w' : ℕ) → ((v : ℕ) → in_set seen' v ≡ (in_set seen v || in_set bit v)) → ((v : ℕ) → in_set bit v ≡ eqb v w) → (w ≡ start) ⊎ (in_set seen start ≡ true) → (w' ≡ start) ⊎ (in_set seen' start ≡ true)
 start_seen seen bit seen' w start w' is one (inl e) = inr (is start ∙ or_right (in_set seen start) (in_set bit start) (one start ∙ eq-eqb start w (sym e)))
@@ -94,16 +69,12 @@ pub walked_start : (fine seen w start : ℕ) → in_set fine w ≡ true → (w �
 walked_start fine seen w start t (inl e) = or_left (in_set fine start) (in_set seen start) (subst (λ (x : ℕ). in_set fine x ≡ true) e t)
 walked_start fine seen w start t (inr s) = or_right (in_set fine start) (in_set seen start) s
 
-pub either_of : (a b : Bool) → (a || b) ≡ true → (a ≡ true) ⊎ (b ≡ true)
-either_of true b e = inl refl
-either_of false b e = inr e
-
 -- ---- what is fine leads to the root
 abbrev pub Fine : (ℕ → ℕ) → ℕ → Type 0
 Fine h fine = (x : ℕ) → in_set fine x ≡ true → Reaches h x
 
 pub fine_more : (h : ℕ → ℕ) (fine seen fine' : ℕ) → ((v : ℕ) → in_set fine' v ≡ (in_set fine v || in_set seen v)) → ((x : ℕ) → in_set seen x ≡ true → (k : ℕ) × (in_set fine (up h k x) ≡ true)) → Fine h fine → Fine h fine'
-fine_more h fine seen fine' is leads good x t = by (either_of (in_set fine x) (in_set seen x) (sym (is x) ∙ t))
+fine_more h fine seen fine' is leads good x t = by (or_cases (in_set fine x) (in_set seen x) (sym (is x) ∙ t))
   where
     by : (in_set fine x ≡ true) ⊎ (in_set seen x ≡ true) → Reaches h x
     by (inl a) = good x a

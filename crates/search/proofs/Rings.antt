@@ -1,5 +1,5 @@
-use Rattle.std.proofs.Common.{◌≡◌, ℕ, zero, suc, ◌+◌, ◌<◌, ◌≤◌, Bool, true, false, ◌||◌, eqb, ◌⊎◌, List, sym, refl, ap, ◌∙◌, subst, inl, inr, arith}
-use Rattle.std.proofs.lemmas.Bool.{cases_eq, both_ways, eq-eqb, ne_eqb, eqb-true}
+use Rattle.std.proofs.Common.{◌≡◌, ℕ, zero, suc, ◌+◌, ◌<◌, ◌≤◌, Bool, true, false, ◌||◌, eqb, ◌⊎◌, ⊎_elim, List, sym, refl, ap, ◌∙◌, subst, inl, inr, arith}
+use Rattle.std.proofs.lemmas.Bool.{cases_eq, both_ways, or_left, or_right, or_cases, eq-eqb, ne_eqb, eqb-true}
 use Rattle.tree.specs.Chains.{Word, up}
 use Rattle.arborescence.specs.Search.{Leader}
 use Rattle.tree.proofs.Chains.{up_plus}
@@ -7,7 +7,7 @@ use Rattle.word_set.specs.Bits.{in_set}
 use Rattle.search.specs.Family.{Group, entry, rep_of, from_of, best_of, next_of}
 use Rattle.search.specs.Ring.{Laid, Periodic, Going, Ring}
 use Rattle.search.proofs.Counts.{missing, missing_less}
-use Rattle.search.proofs.Records.{entry_from, entry_value, or_left, either_of, up_last}
+use Rattle.search.proofs.Records.{entry_from, entry_value, up_last}
 
 -- what a chain has come to leads on round
 pub back : (h : ℕ → ℕ) (w : ℕ) → Periodic h w → (a : ℕ) → (c : ℕ) × (up h c (up h a w) ≡ w)
@@ -23,12 +23,6 @@ stays h z zero = refl
 stays h z (suc k) = ap (up h k) z ∙ stays h z k
 
 module _ (n : ℕ) (base : ℕ → Group) (ms : List Group) (laid : Laid n base ms) where
-  rep : ℕ → ℕ
-  rep = rep_of ms
-
-  from : ℕ → ℕ
-  from = from_of base ms
-
   pub from_same : (w : ℕ) → w ≤ n → from_of base ms (rep_of ms w) ≡ from_of base ms w
   from_same w le = sym (entry_from base ms (rep_of ms w)) ∙ (ap (λ (x : Group). x.from) (laid.same w le) ∙ entry_from base ms w)
 
@@ -69,15 +63,7 @@ module _ (n : ℕ) (base : ℕ → Group) (ms : List Group) (laid : Laid n base 
         by (inr e) = omega arith
 
     old_or : (v : ℕ) → v ≤ n → in_set S' v ≡ true → (in_set S v ≡ true) ⊎ (rep_of ms v ≡ rep_of ms at)
-    old_or v le t = by (either_of (in_set S v) (in_set more v) (sym (is v) ∙ t))
-      where
-        by : (in_set S v ≡ true) ⊎ (in_set more v ≡ true) → (in_set S v ≡ true) ⊎ (rep_of ms v ≡ rep_of ms at)
-        by (inl a) = inl a
-        by (inr b) = inr (eqb-true (rep_of ms v) (rep_of ms at) (sym (new v le) ∙ b))
-
-    or_new : (a b : Bool) → b ≡ true → (a || b) ≡ true
-    or_new true b e = refl
-    or_new false b e = e
+    old_or v le t = ⊎_elim inl (λ b. inr (eqb-true (rep_of ms v) (rep_of ms at) (sym (new v le) ∙ b))) (or_cases (in_set S v) (in_set more v) (sym (is v) ∙ t))
 
     pub going_more : Going n base ms word at' S'
     going_more =
@@ -109,7 +95,7 @@ module _ (n : ℕ) (base : ℕ → Group) (ms : List Group) (laid : Laid n base 
           where
             by : (in_set S (from_of base ms ℓ) ≡ true) ⊎ (from_of base ms ℓ ≡ at) → (in_set S' (from_of base ms ℓ) ≡ true) ⊎ (from_of base ms ℓ ≡ at')
             by (inl t) = inl (is (from_of base ms ℓ) ∙ or_left (in_set S (from_of base ms ℓ)) (in_set more (from_of base ms ℓ)) t)
-            by (inr e) = inl (subst (λ (x : ℕ). in_set S' x ≡ true) (sym e) (is at ∙ or_new (in_set S at) (in_set more at) at_new))
+            by (inr e) = inl (subst (λ (x : ℕ). in_set S' x ≡ true) (sym e) (is at ∙ or_right (in_set S at) (in_set more at) at_new))
         inside ℓ l (inr e) = inr (ap (from_of base ms) (sym l.own ∙ e) ∙ (from_same at going.here.1 ∙ sym step))
 
     pub going_less : in_set S at ≡ false → missing n S' < missing n S

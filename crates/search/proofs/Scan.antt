@@ -3,7 +3,7 @@ use Rattle.std.proofs.Common.{◌≡◌, ℕ, ◌+◌, ◌-◌, ◌*◌, ◌<◌
 use Rattle.std.specs.Bool.{then_some}
 use Rattle.std.specs.Option.{option_or}
 use Rattle.std.proofs.lemmas.List.{get_or-map}
-use Rattle.std.proofs.lemmas.Bool.{cases_lt, cases_Bool, cases_eq, both_ways, and_from, and_parts, not-true, eq-eqb, ne_eqb, leb-true, le-leb}
+use Rattle.std.proofs.lemmas.Bool.{cases_lt, cases_Bool, cases_eq, both_ways, and_from, and_parts, and_right, not_from_true, not-true, eq-eqb, ne_eqb, leb-true, le-leb}
 use Rattle.std.proofs.lemmas.Nat.{mul-add-lt}
 use Rattle.weight.specs.Worth.{Worth, plus, at_most, AtMost}
 use Rattle.weight.specs.Layers.{root_worth}
@@ -26,6 +26,10 @@ not_at_most a b e = by (at_most_total a b)
     by : AtMost a b ⊎ AtMost b a → AtMost b a
     by (inl h) = absurd (subst T e h.holds)
     by (inr h) = h
+
+but_out : (a b : Bool) → b ≡ false → (a && not b) ≡ a
+but_out true b e = ap not e
+but_out false b e = refl
 
 -- ---- the best of some heads
 module _ (w : ℕ → Worth) where
@@ -54,26 +58,18 @@ module _ (w : ℕ → Worth) where
   seen_more heads left left' best from is here s = (
     λ h t. s.0 h (and_parts (in_set left h) (not (eqb h from)) (sym (is h) ∙ t)).0,
     head_more (λ h. in_set heads h && not (in_set left h)) (λ h. in_set heads h && not (in_set left' h)) best from
-        (and_from (in_set heads from) (not (in_set left' from)) (s.0 from here) (ap not (is from ∙ gone (in_set left from) (eqb from from) (eq-eqb from from refl))))
+        (and_from (in_set heads from) (not (in_set left' from)) (s.0 from here) (ap not (is from ∙ and_right (in_set left from) _ (not_from_true _ (eq-eqb from from refl)))))
         (λ h t. let p = and_parts (in_set heads h) (not (in_set left h)) t in and_from (in_set heads h) (not (in_set left' h)) p.0 (ap not (is h ∙ ap (λ (b : Bool). b && not (eqb h from)) (not-true (in_set left h) p.1))))
         (λ h t. let p = and_parts (in_set heads h) (not (in_set left' h)) t in split h p.0 (not-true (in_set left' h) p.1) (cases_Bool (in_set left h)) (cases_eq h from)) s.1,
   )
     where
-      gone : (a b : Bool) → b ≡ true → (a && not b) ≡ false
-      gone true b e = ap not e
-      gone false b e = refl
-
       split : (h : ℕ) → in_set heads h ≡ true → in_set left' h ≡ false → (in_set left h ≡ true) ⊎ (in_set left h ≡ false) → (h ≡ from) ⊎ (h ≡ from → ⊥) → ((in_set heads h && not (in_set left h)) ≡ true) ⊎ (h ≡ from)
       split h t f c (inl e) = inr e
       split h t f (inr l) (inr ne) = inl (and_from (in_set heads h) (not (in_set left h)) t (ap not l))
       split h t f (inl l) (inr ne) = absurd (both_ways (in_set left' h) f (is h ∙ and_from (in_set left h) (not (eqb h from)) l (ap not (ne_eqb h from ne))))
 
   pub seen_all : (heads left : ℕ) (best : Option ℕ) → ((h : ℕ) → in_set left h ≡ false) → Seen heads left best → BestHead (in_set heads) w best
-  seen_all heads left None none s = λ h. sym (whole (in_set heads h) (in_set left h) (none h)) ∙ s.1 h
-    where
-      whole : (a b : Bool) → b ≡ false → (a && not b) ≡ a
-      whole true b e = ap not e
-      whole false b e = refl
+  seen_all heads left None none s = λ h. sym (but_out (in_set heads h) (in_set left h) (none h)) ∙ s.1 h
   seen_all heads left (Some best) none s = ((and_parts (in_set heads best) (not (in_set left best)) s.1.0).0, λ h t. s.1.1 h (and_from (in_set heads h) (not (in_set left h)) t (ap not (none h))))
 
 -- ---- over the root layer a word comes before the root
@@ -83,11 +79,7 @@ front_word worth to b h nb (inr p) = rw (ne_eqb h 0 p.0, ne_eqb b 0 nb) (record 
 
 module _ (worth : ℕ → ℕ → Worth) (to heads root words : ℕ) (is : (h : ℕ) → in_set words h ≡ (in_set heads h && not (in_set root h))) (one : (h : ℕ) → in_set root h ≡ eqb h 0) where
   word_in : (h : ℕ) → (h ≡ 0 → ⊥) → in_set words h ≡ in_set heads h
-  word_in h ne = is h ∙ by (in_set heads h) (in_set root h) (one h ∙ ne_eqb h 0 ne)
-    where
-      by : (a b : Bool) → b ≡ false → (a && not b) ≡ a
-      by true b e = ap not e
-      by false b e = refl
+  word_in h ne = is h ∙ but_out (in_set heads h) (in_set root h) (one h ∙ ne_eqb h 0 ne)
 
   head_word : (b : ℕ) → BestHead (in_set words) (λ h. worth h to) (Some b) → BestHead (in_set heads) (λ h. rooted worth h to) (Some b)
   head_word b best = (p.0, λ h t. front_word worth to b h nb (by h t (cases_eq h 0)))
@@ -154,16 +146,12 @@ module _ {K : Type 0} (f : K → Worth) (w : ℕ → ℕ → Worth) where
       by true t = (to₁ _ _ p.0, p.1, λ h d x. each _ (at_most_refl _) (record { holds = subst T (sym t) tt }) h d (either h d x))
       by false t = (to₂ _ _ q.0, q.1, λ h d x. each _ (not_at_most _ _ t) (at_most_refl _) h d (either h d x))
 
-pub best_weigh : {K : Type 0} (f : K → Worth) (w w' : ℕ → ℕ → Worth) (A : ℕ → ℕ → Type 0) (o : Option (Entering K)) → ((h d : ℕ) → A h d → w h d ≡ w' h d) → Best f A w o → Best f A w' o
-best_weigh f w w' A None e b = b
-best_weigh f w w' A (Some x) e b = (b.0, b.1 ∙ e _ _ b.0, λ h d a. subst (λ (v : Worth). AtMost v (root_worth f x.value)) (e h d a) (b.2 h d a))
-
 -- the potential of the word is the same for all its arcs, so the best head stays the best
-pub best_arc : {K : Type 0} (f : K → Worth) (worth : ℕ → ℕ → Worth) (add : Worth) (heads to : ℕ) (e : Entering K) → e.to ≡ to → root_worth f e.value ≡ plus (worth e.from to) add → BestHead (in_set heads) (λ h. worth h to) (Some e.from) → Best f (HeadArc heads to) (with_potential worth (λ _. add)) (Some e)
+pub best_arc : {K : Type 0} (f : K → Worth) (worth : ℕ → ℕ → Worth) (add : ℕ → Worth) (heads to : ℕ) (e : Entering K) → e.to ≡ to → root_worth f e.value ≡ plus (worth e.from to) (add to) → BestHead (in_set heads) (λ h. worth h to) (Some e.from) → Best f (HeadArc heads to) (with_potential worth add) (Some e)
 best_arc f worth add heads to e is value best = (
   record { is = is; standing = best.0 },
-  value ∙ ap (λ (d : ℕ). plus (worth e.from d) add) (sym is),
-  λ h d a. rw (value, a.is) (at_most_plus (worth h to) (worth e.from to) add (best.1 h a.standing)),
+  value ∙ ap (λ (d : ℕ). plus (worth e.from d) (add d)) (sym is),
+  λ h d a. rw (value, a.is) (at_most_plus (worth h to) (worth e.from to) (add to) (best.1 h a.standing)),
 )
 
 module _ {K : Type 0} (f : K → Worth) (w : ℕ → ℕ → Worth) (n : ℕ) (stands : ℕ → ℕ → Bool) (inside : ℕ) where
@@ -195,12 +183,11 @@ module _ {K : Type 0} (f : K → Worth) (w : ℕ → ℕ → Worth) (n : ℕ) (s
     pub arc_free : (h : ℕ) → h ≤ n → stands h k ≡ true → in_set inside h ≡ false → in_set free h ≡ true
     arc_free h le t f = is h ∙ and_from (in_set heads h) (not (in_set inside h)) (looked h ∙ and_from (leb h n) (stands h k) (le-leb h n le) t) (ap not f)
 
-    pub set_take : (best next : Option (Entering K)) (w' : ℕ → ℕ → Worth) → Word n k → in_set inside k ≡ true → ((h : ℕ) → w' h k ≡ w h k) → Best f (HeadArc free k) w' next → Best f (SetArc n k stands inside) w best → Best f (SetArc n (k + 1) stands inside) w (better_of f best next)
-    set_take best next w' v yes-word same b old =
+    pub set_take : (best next : Option (Entering K)) → Word n k → in_set inside k ≡ true → Best f (HeadArc free k) w next → Best f (SetArc n k stands inside) w best → Best f (SetArc n (k + 1) stands inside) w (better_of f best next)
+    set_take best next v yes-word b old =
         best_join f w (SetArc n k stands inside) (HeadArc free k) (SetArc n (k + 1) stands inside) best next (more k)
         (λ h d a. let q = free_arc h a.standing in subst (λ (x : ℕ). SetArc n (k + 1) stands inside h x) (sym a.is) (record { word = v; before = omega arith; in_line = q.0; standing = q.1; within = yes-word; outside = q.2 }))
-        (λ h d a. by h d a (at_d k h d a)) old
-        (best_weigh f w' w (HeadArc free k) next (λ h d a. subst (λ (x : ℕ). w' h x ≡ w h x) (sym a.is) (same h)) b)
+        (λ h d a. by h d a (at_d k h d a)) old b
       where
         by : (h d : ℕ) → SetArc n (k + 1) stands inside h d → SetArc n k stands inside h d ⊎ (d ≡ k) → SetArc n k stands inside h d ⊎ HeadArc free k h d
         by h d a (inl x) = inl x

@@ -1,6 +1,6 @@
 -- The sets that a search has made, the newest first, over the words' own best arcs.
 -- All that the search knows at a stage is told by that list: whose set a word is in, and what it adds.
-use Rattle.std.specs.Prelude.{◌≡◌, ℕ, ◌≤◌, Bool, true, cond, List, [], ◌∷◌, ◌==◌}
+use Rattle.std.specs.Prelude.{◌≡◌, ℕ, Bool, true, cond, List, [], ◌∷◌, ◌==◌}
 use Rattle.weight.specs.Worth.{Worth, plus}
 use Rattle.tree.specs.Chains.{Word, up}
 use Rattle.arborescence.specs.Search.{Leader, Into, Covers, Union, raised}
@@ -44,14 +44,19 @@ size_of n (m ∷ ms) w = merged_size (in_set m.members) n (rep_of ms) (size_of n
 abbrev pub next_of : (ℕ → Group) → List Group → ℕ → ℕ
 next_of base ms w = rep_of ms (from_of base ms w)
 
--- each word has its best arc
-pub record Begun (n : ℕ) (stands : ℕ → ℕ → Bool) (worth : ℕ → ℕ → Worth) (z : Worth) (base : ℕ → Group) : Type 0 where
-  pub own : (w : ℕ) → w ≤ n → (base w).to ≡ w
+-- a word has its best arc
+pub record BegunAt (n : ℕ) (stands : ℕ → ℕ → Bool) (worth : ℕ → ℕ → Worth) (z : Worth) (g : Group) (w : ℕ) : Type 0 where
+  pub own : g.to ≡ w
+  pub single : (v : ℕ) → in_set g.members v ≡ (v == w)
+  pub arc : Into n stands (λ v. v) w g.from w
+  pub valued : g.value ≡ plus (worth g.from w) z
+  pub covers : Covers n stands worth (λ v. v) (λ v. z) w g.value
+
+-- the root leads nowhere, and each word up to k has its best arc
+pub record Begun (n k : ℕ) (stands : ℕ → ℕ → Bool) (worth : ℕ → ℕ → Worth) (z : Worth) (base : ℕ → Group) : Type 0 where
+  pub top : (base 0).to ≡ 0
   pub root : (base 0).from ≡ 0
-  pub single : (w : ℕ) → Word n w → (v : ℕ) → in_set (base w).members v ≡ (v == w)
-  pub arc : (w : ℕ) → Word n w → Into n stands (λ v. v) w (base w).from w
-  pub valued : (w : ℕ) → Word n w → (base w).value ≡ plus (worth (base w).from w) z
-  pub covers : (w : ℕ) → Word n w → Covers n stands worth (λ v. v) (λ v. z) w (base w).value
+  pub words : (w : ℕ) → Word k w → BegunAt n stands worth z (base w) w
 
 -- the sets of a ring of best arcs became one
 pub record Joined (n : ℕ) (stands : ℕ → ℕ → Bool) (worth : ℕ → ℕ → Worth) (z : Worth) (base : ℕ → Group) (m : Group) (ms : List Group) : Type 0 where
@@ -63,7 +68,7 @@ pub record Joined (n : ℕ) (stands : ℕ → ℕ → Bool) (worth : ℕ → ℕ
   pub covers : Covers n stands worth (rep_of (m ∷ ms)) (add_of n z base (m ∷ ms)) m.to m.value
 
 abbrev pub Valid : (n : ℕ) (stands : ℕ → ℕ → Bool) (worth : ℕ → ℕ → Worth) (z : Worth) (base : ℕ → Group) → List Group → Type 0
-Valid n stands worth z base [] = Begun n stands worth z base
+Valid n stands worth z base [] = Begun n n stands worth z base
 Valid n stands worth z base (m ∷ ms) = Valid n stands worth z base ms × Joined n stands worth z base m ms
 
 -- what each set knows

@@ -1,10 +1,9 @@
 -- The family is opened from the newest set to the oldest: each set's word gets its head, unless a word of the set has one already
 use Rattle.std.specs.Prelude.{◌≡◌, ℕ, suc, ◌≤◌, Bool, true, false, ◌⊎◌, List, All}
-use Rattle.weight.specs.Worth.{Worth, AtMost}
+use Rattle.weight.specs.Worth.{Worth, AtMost, zeros}
 use Rattle.tree.specs.Chains.{Word, Reaches}
 use Rattle.arborescence.specs.Search.{Leader, Built, Tree, tree_worth}
 use Rattle.word_set.specs.Bits.{in_set}
-use Rattle.weight.specs.Worth.{zeros}
 use Rattle.search.specs.Arcs.{Sound}
 use Rattle.search.specs.Family.{Group, rep_of, from_of, add_of, Valid}
 
@@ -24,11 +23,6 @@ pub record Opened (n : ℕ) (stands : ℕ → ℕ → Bool) (worth : ℕ → ℕ
   pub built : Built n stands worth (rep_of ms) (add_of n z base ms) goal
   pub held : (ℓ : ℕ) → Leader n (rep_of ms) ℓ → Shut n base ms done built.from built.to ℓ ⊎ EnteredBy n ms done head built.from built.to ℓ
   pub rest : (w : ℕ) → Word n w → in_set done w ≡ false → head w ≡ (base w).from
-
--- whether two sets have a word in common
-abbrev pub Meets : ℕ → ℕ → ℕ → Bool → Type 0
-Meets n a b true = (v : ℕ) × Word n v × (in_set a v ≡ true) × (in_set b v ≡ true)
-Meets n a b false = (v : ℕ) → Word n v → in_set a v ≡ true → in_set b v ≡ false
 
 -- a tree, and none is worth more
 abbrev pub BestOfAll : (n : ℕ) (stands : ℕ → ℕ → Bool) (worth : ℕ → ℕ → Worth) (head : ℕ → ℕ) → Type 0

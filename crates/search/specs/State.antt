@@ -1,13 +1,12 @@
 -- The records of a search: of the root at 0 and the words at 1 to n, and of the sets that were made, in their order
-use Rattle.std.specs.Prelude.{◌≡◌, ℕ, zero, suc, ◌+◌, ◌-◌, ◌*◌, ◌<◌, ◌≤◌, Bool, true, ◌||◌, List, [], ◌∷◌, map, reverse, ⊤, Some, None, Ok, Err, Option, Result, ◌==◌, slice_index_or}
-use Rattle.weight.specs.Worth.{Worth, plus}
+use Rattle.std.specs.Prelude.{◌≡◌, ℕ, suc, ◌+◌, ◌-◌, ◌*◌, ◌<◌, ◌≤◌, Bool, true, ◌||◌, List, [], map, reverse, take, ⊤, Some, None, Ok, Err, Option, Result, slice_index_or}
+use Rattle.weight.specs.Worth.{Worth, zeros}
 use Rattle.tree.specs.Chains.{Word, up, Reaches}
-use Rattle.arborescence.specs.Search.{Tree, Into, Covers}
+use Rattle.arborescence.specs.Search.{Tree}
 use Rattle.search.specs.declared.family.Family.{Family as Records}
 use Rattle.search.specs.declared.family.Node.{Node}
 use Rattle.search.specs.declared.graph.Graph.{Graph}
 use Rattle.word_set.specs.Bits.{in_set}
-use Rattle.weight.specs.Worth.{zeros}
 use Rattle.weight.specs.Layers.{Root, root_worth}
 use Rattle.search.specs.Arcs.{stands_in, arc_in, potential}
 use Rattle.search.specs.Family.{Group, from_of, add_of, Valid}
@@ -21,21 +20,16 @@ blank = record { members = 0; from = 0; to = 0; value = [] }
 abbrev pub group_at : {K : Type 0} → (K → Worth) → List (Node K) → ℕ → Group
 group_at f nodes i = slice_index_or (map (view f) nodes) i blank
 
--- the first j sets that were made, the newest first
-abbrev pub family : (ℕ → Group) → ℕ → List Group
-family node zero = []
-family node (suc j) = node j ∷ family node j
+-- the sets that were made, the newest first
+abbrev pub sets_of : {K : Type 0} → (K → Worth) → List (Node K) → List Group
+sets_of f made = map (view f) (reverse made)
 
--- the head of a word's set, by the first j sets
-abbrev pub head_by : (ℕ → Group) → (ℕ → Group) → ℕ → ℕ → ℕ
-head_by base node j w = from_of base (family node j) w
-
--- the same of the records that a search has so far
+-- the records that a search has so far
 abbrev pub base_in : {K : Type 0} → (K → Worth) → Records K → ℕ → Group
 base_in f records = group_at f records.nodes.now
 
 abbrev pub sets_in : {K : Type 0} → (K → Worth) → Records K → List Group
-sets_in f records = map (view f) (reverse records.made.now)
+sets_in f records = sets_of f records.made.now
 
 abbrev pub head_in : {K : Type 0} → (K → Worth) → Records K → ℕ → ℕ
 head_in f records = from_of (base_in f records) (sets_in f records)
@@ -50,14 +44,10 @@ abbrev pub Found : ℕ → (ℕ → ℕ) → Result ⊤ ℕ → Type 0
 Found n head (Ok _) = (w : ℕ) → Word n w → Reaches head w
 Found n head (Err w) = Word n w × ((k : ℕ) × (up head (suc k) w ≡ w))
 
--- ---- the search between two merges, of arcs that stand and their worths: p places below the root layer's
-pub record State {K : Type 0} (f : K → Worth) (p n : ℕ) (stands : ℕ → ℕ → Bool) (worth : ℕ → ℕ → Worth) (nodes merges : List (Node K)) (potentials : List (Root K)) (made : ℕ) : Type 0 where
-  pub valid : Valid n stands worth (zeros (suc p)) (group_at f nodes) (family (group_at f merges) made)
-  pub agree : (d : ℕ) → Word n d → potential f potentials d ≡ add_of n (zeros (suc p)) (group_at f nodes) (family (group_at f merges) made) d
-
--- the same of a graph
-abbrev pub StateIn : {K : Type 0} → (K → Worth) → ℕ → Graph K → (nodes merges : List (Node K)) (potentials : List (Root K)) (made : ℕ) → Type 0
-StateIn f p graph nodes merges potentials made = State f p graph.words (stands_in graph) (arc_in f graph) nodes merges potentials made
+-- ---- the search between two merges, with the sets that were made, over a kind with p places
+pub record StateIn {K : Type 0} (f : K → Worth) (p : ℕ) (graph : Graph K) (nodes made : List (Node K)) (potentials : List (Root K)) : Type 0 where
+  pub valid : Valid graph.words (stands_in graph) (arc_in f graph) (zeros (suc p)) (group_at f nodes) (sets_of f made)
+  pub agree : (d : ℕ) → Word graph.words d → potential f potentials d ≡ add_of graph.words (zeros (suc p)) (group_at f nodes) (sets_of f made) d
 
 -- the memory of a search of n words is long enough, by the lengths of its parts
 pub record Room (n sets weights nodes merges potentials : ℕ) : Type 0 where
@@ -78,21 +68,7 @@ abbrev pub NoTree : (n : ℕ) (stands : ℕ → ℕ → Bool) → Type 0
 NoTree n stands = (head : ℕ → ℕ) → Tree n stands head → ⊥
 
 -- what the growing comes to: a state in which every word's heads lead to the root, or no tree
-abbrev pub Grown : {K : Type 0} → (K → Worth) → (p n : ℕ) → (stands : ℕ → ℕ → Bool) (worth : ℕ → ℕ → Worth) → List (Node K) → List (Node K) → List (Root K) → Option ℕ → Type 0
-Grown f p n stands worth nodes merges potentials None = NoTree n stands
-Grown f p n stands worth nodes merges potentials (Some made) = State f p n stands worth nodes merges potentials made × ((w : ℕ) → Word n w → Reaches (head_by (group_at f nodes) (group_at f merges) made) w) × (made ≤ n - 1)
-
--- the same of a graph
-abbrev pub GrownIn : {K : Type 0} → (K → Worth) → ℕ → Graph K → (nodes merges : List (Node K)) (potentials : List (Root K)) → Option ℕ → Type 0
-GrownIn f p graph nodes merges potentials made = Grown f p graph.words (stands_in graph) (arc_in f graph) nodes merges potentials made
-
--- the words before k have their best arcs
-pub record BegunAt (n : ℕ) (stands : ℕ → ℕ → Bool) (worth : ℕ → ℕ → Worth) (z : Worth) (g : Group) (w : ℕ) : Type 0 where
-  pub own : g.to ≡ w
-  pub single : (v : ℕ) → in_set g.members v ≡ (v == w)
-  pub arc : Into n stands (λ v. v) w g.from w
-  pub valued : g.value ≡ plus (worth g.from w) z
-  pub covers : Covers n stands worth (λ v. v) (λ v. z) w g.value
-
-abbrev pub BegunTo : (n : ℕ) (stands : ℕ → ℕ → Bool) (worth : ℕ → ℕ → Worth) (z : Worth) (base : ℕ → Group) (k : ℕ) → Type 0
-BegunTo n stands worth z base k = ((base 0).to ≡ 0) × ((base 0).from ≡ 0) × ((w : ℕ) → Word n w → w < k → BegunAt n stands worth z (base w) w)
+abbrev pub Grown : {K : Type 0} → (K → Worth) → ℕ → Graph K → (nodes merges : List (Node K)) (potentials : List (Root K)) → Option ℕ → Type 0
+Grown f p graph nodes merges potentials None = NoTree graph.words (stands_in graph)
+Grown f p graph nodes merges potentials (Some made) =
+    StateIn f p graph nodes (take made merges) potentials × ((w : ℕ) → Word graph.words w → Reaches (from_of (group_at f nodes) (sets_of f (take made merges))) w) × (made ≤ graph.words - 1)

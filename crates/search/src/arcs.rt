@@ -2,7 +2,6 @@
 ghost use Rattle.std.specs.Prelude.{◌≡◌, ℕ, ◌+◌, ◌^◌, ◌<◌, ◌≤◌, true, length};
 ghost use Rattle.search.specs.Arcs.{InLine, stands_in, arc_in, potential, Best, better_of, HeadArc, SetArc, with_potential};
 ghost use Rattle.tree.specs.Chains.{Word};
-ghost use Rattle.weight.specs.Layers.{root_worth};
 ghost use Rattle.weight.specs.Worth.{Within};
 ghost use Rattle.word_set.specs.Bits.{in_set};
 
@@ -31,15 +30,16 @@ fn better<K: Kind + Copy>(a: Option<Entering<K>>, b: Option<Entering<K>>) -> Opt
 
 impl<K: Kind + Copy> Graph<'_, K> {
     // The best arc into a word from some heads, with the potential of the word.
-    fn best_arc(&self, to: usize, heads: u64, add: Root<K>) -> Option<Entering<K>>
+    fn best_arc(&self, to: usize, heads: u64, potentials: &[Root<K>]) -> Option<Entering<K>>
         requires to { Word self.now.words to }
         requires heads { InLine self.now.words heads }
         requires small { (h : ℕ) → in_set heads h ≡ true → Within (2 ^ 20) (arc_in K.Kind.worth self.now h to) }
-        requires add { Within (2 ^ 30) (root_worth K.Kind.worth add) }
-        ensures { Best K.Kind.worth (HeadArc heads to) (with_potential (arc_in K.Kind.worth self.now) (λ _. root_worth K.Kind.worth add)) result }
+        requires room { to < length potentials.now }
+        requires add { Within (2 ^ 30) (potential K.Kind.worth potentials.now to) }
+        ensures { Best K.Kind.worth (HeadArc heads to) (with_potential (arc_in K.Kind.worth self.now) (potential K.Kind.worth potentials.now)) result }
     {
         let from = self.best_head(to, heads)?;
-        let value = self.arc(from, to).sum(&add);
+        let value = self.arc(from, to).sum(&potentials[to]);
         Some(Entering { from, to, value })
     }
 
@@ -55,7 +55,7 @@ impl<K: Kind + Copy> Graph<'_, K> {
         for to in 1..self.words + 1 {
             if holds(inside, to) {
                 let heads = without(self.open_heads(to), inside);
-                best = better(best, self.best_arc(to, heads, potentials[to]));
+                best = better(best, self.best_arc(to, heads, potentials));
             }
         }
         best

@@ -36,11 +36,7 @@ impl<K: Kind + Copy> Graph<'_, K> {
         let Some(head) = self.held.get(word - 1) else {
             return heads;
         };
-        let head = usize::from(*head);
-        if head > self.words {
-            return 0;
-        }
-        both(heads, only(head))
+        both(heads, only(usize::from(*head)))
     }
 
     // The weight of an arc, where it lies.

@@ -1,8 +1,9 @@
 // Rings of heads are merged into sets until every word's heads lead to the root.
-ghost use Rattle.std.specs.Prelude.{◌≡◌, ℕ, ◌+◌, ◌<◌, ◌≤◌, length, MatchOption};
+ghost use Rattle.std.specs.Prelude.{◌≡◌, ℕ, ◌+◌, ◌<◌, ◌≤◌, [], take, length, MatchOption};
+ghost use Rattle.search.specs.Family.{from_of};
 ghost use Rattle.search.specs.Arcs.{stands_in, SoundIn};
 ghost use Rattle.search.specs.Ring.{Periodic};
-ghost use Rattle.search.specs.State.{group_at, head_by, NoTree, StateIn, SpaceFor, GrownIn};
+ghost use Rattle.search.specs.State.{group_at, sets_of, NoTree, StateIn, SpaceFor, Grown};
 ghost use Rattle.tree.specs.Chains.{Word};
 
 use crate::family::{Family, Node};
@@ -20,12 +21,12 @@ fn merge<K: Kind + Copy>(
 ) -> Option<()>
     requires space { SpaceFor graph.now.words (length nodes.now) (length merges.old) (length potentials.old) }
     requires sound { SoundIn K.Kind.worth K.Kind.places graph.now }
-    requires state { StateIn K.Kind.worth K.Kind.places graph.now nodes.now merges.old potentials.old made }
+    requires state { StateIn K.Kind.worth K.Kind.places graph.now nodes.now (take made merges.old) potentials.old }
     requires made { made + 1 ≤ graph.now.words }
     requires word { Word graph.now.words word }
-    requires ring { Periodic (head_by (group_at K.Kind.worth nodes.now) (group_at K.Kind.worth merges.old) made) word }
+    requires ring { Periodic (from_of (group_at K.Kind.worth nodes.now) (sets_of K.Kind.worth (take made merges.old))) word }
     ensures room { made + 2 ≤ graph.now.words }
-    ensures merged { MatchOption result (NoTree graph.now.words (stands_in graph.now)) (λ _. StateIn K.Kind.worth K.Kind.places graph.now nodes.now merges.new potentials.new (made + 1)) }
+    ensures merged { MatchOption result (NoTree graph.now.words (stands_in graph.now)) (λ _. StateIn K.Kind.worth K.Kind.places graph.now nodes.now (take (made + 1) merges.new) potentials.new) }
 {
     let family = Family {
         words: graph.words,
@@ -50,8 +51,8 @@ pub(crate) fn grow<K: Kind + Copy>(
 ) -> Option<usize>
     requires space { SpaceFor graph.now.words (length nodes.now) (length merges.old) (length potentials.old) }
     requires sound { SoundIn K.Kind.worth K.Kind.places graph.now }
-    requires state { StateIn K.Kind.worth K.Kind.places graph.now nodes.now merges.old potentials.old 0 }
-    ensures { GrownIn K.Kind.worth K.Kind.places graph.now nodes.now merges.new potentials.new result }
+    requires state { StateIn K.Kind.worth K.Kind.places graph.now nodes.now [] potentials.old }
+    ensures { Grown K.Kind.worth K.Kind.places graph.now nodes.now merges.new potentials.new result }
 {
     let mut made = 0;
     'rounds: loop {

@@ -30,7 +30,7 @@ fn clear<K: Kind + Copy>(words: usize, potentials: &mut [Root<K>])
 fn begin<K: Kind + Copy>(graph: &Graph<'_, K>, nodes: &mut [Node<K>]) -> Option<()>
     requires room { graph.now.words < length nodes.old }
     requires sound { SoundIn K.Kind.worth K.Kind.places graph.now }
-    ensures { MatchOption result (NoTree graph.now.words (stands_in graph.now)) (λ _. Begun graph.now.words (stands_in graph.now) (arc_in K.Kind.worth graph.now) (zeros (suc K.Kind.places)) (group_at K.Kind.worth nodes.new)) }
+    ensures { MatchOption result (NoTree graph.now.words (stands_in graph.now)) (λ _. Begun graph.now.words graph.now.words (stands_in graph.now) (arc_in K.Kind.worth graph.now) (zeros (suc K.Kind.places)) (group_at K.Kind.worth nodes.new)) }
 {
     nodes[0] = Node::new(K::nothing());
     // by the word and not by the nodes' items: the word asks for its heads and its arc too

@@ -1,13 +1,13 @@
-use Rattle.std.proofs.Common.{◌≡◌, ℕ, suc, ◌<◌, Bool, length, length-set, ap, ◌∙◌, arith, rules}
+use Rattle.std.proofs.Common.{◌≡◌, ℕ, suc, ◌-◌, ◌<◌, Bool, length, length-set, ap, ◌∙◌, subst, arith, rules}
 use Rattle.weight.specs.Worth.{Worth, zeros}
 use Rattle.weight.specs.Layers.{root_worth}
 use Rattle.tree.specs.Chains.{Word}
 use Rattle.search.specs.Arcs.{stands_in, arc_in}
-use Rattle.search.specs.Family.{Group}
+use Rattle.search.specs.Family.{Group, Begun}
 use Rattle.search.specs.State.{group_at}
 use Rattle.search.proofs.Scan.{free_arc}
 use Rattle.search.proofs.Steps.{group_set_same}
-use Rattle.search.proofs.Begins.{begin_none, begin_some, begin_more, begin_done}
+use Rattle.search.proofs.Begins.{begin_none, begin_some, begin_more}
 use Rattle.search.proofs.whole.begin.Goals as goal
 
 pub loop-to-init : goal.loop-to-init
@@ -15,7 +15,7 @@ loop-to-init g c =
     let f = g.K.Kind.worth in
     let l : 0 < length c.args.nodes.now = omega (arith, c.requires.room) in
     let e = group_set_same f c.args.nodes.now 0 _ l ∙ c.new.ensures in
-    (ap (λ (x : Group). x.to) e, ap (λ (x : Group). x.from) e, λ w v lt. absurd (omega (arith, v.0)))
+    record { top = ap (λ (x : Group). x.to) e; root = ap (λ (x : Group). x.from) e; words = λ w v. absurd (omega (arith, v.0, v.1)) }
 
 pub best_head-requires : goal.best_head-requires
 best_head-requires g c =
@@ -65,4 +65,6 @@ loop-to-preserved g c =
 pub returns : goal.returns
 returns g c =
     let f = g.K.Kind.worth in
-    begin_done f c.args.graph.now.words (stands_in c.args.graph.now) (arc_in f c.args.graph.now) (zeros (suc g.K.Kind.places)) (group_at f c.loop-to.nodes) c.loop-to.to (omega (arith, c.loop-to-test.false)) c.loop-to.invariant
+    let n : ℕ = c.args.graph.now.words in
+    let e : c.loop-to.to - 1 ≡ n = omega (arith, c.loop-to-test.false, c.loop-to.auto.to-end (omega arith)) in
+    subst (λ (k : ℕ). Begun n k (stands_in c.args.graph.now) (arc_in f c.args.graph.now) (zeros (suc g.K.Kind.places)) (group_at f c.loop-to.nodes)) e c.loop-to.invariant

@@ -1,11 +1,10 @@
 use Rattle.std.proofs.Common.{◌≡◌, ℕ, suc, ◌+◌, ◌-◌, ◌*◌, ◌^◌, ◌≤◌, Bool, true, false, ◌&&◌, sym, ap, ◌∙◌, subst, arith}
 use Rattle.std.proofs.lemmas.Bool.{eq-eqb, ne_eqb, and_from}
-use Rattle.weight.specs.Worth.{Worth, plus, Within}
+use Rattle.weight.specs.Worth.{Worth, zeros, plus, Within}
 use Rattle.arborescence.specs.Sum.{sum_if}
 use Rattle.arborescence.specs.Search.{leads}
 use Rattle.weight.proofs.Worths.{within_more}
 use Rattle.word_set.specs.Bits.{in_set}
-use Rattle.weight.specs.Worth.{zeros}
 use Rattle.weight.specs.Layers.{root_worth}
 use Rattle.search.specs.Family.{Group, rep_of, best_of}
 use Rattle.search.specs.State.{base_in, sets_in}

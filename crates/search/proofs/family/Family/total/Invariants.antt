@@ -1,9 +1,8 @@
 use Rattle.std.proofs.Common.{◌≡◌, suc, ◌-◌, ◌&&◌}
-use Rattle.weight.specs.Worth.{plus}
+use Rattle.weight.specs.Worth.{zeros, plus}
 use Rattle.arborescence.specs.Sum.{sum_if}
 use Rattle.arborescence.specs.Search.{leads}
 use Rattle.word_set.specs.Bits.{in_set}
-use Rattle.weight.specs.Worth.{zeros}
 use Rattle.weight.specs.Layers.{root_worth}
 use Rattle.search.specs.Family.{rep_of, best_of}
 use Rattle.search.specs.State.{base_in, sets_in}

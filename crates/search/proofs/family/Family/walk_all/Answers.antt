@@ -1,5 +1,6 @@
 use Rattle.std.proofs.Common.{◌∙◌, arith}
-use Rattle.search.proofs.Records.{fine_more, or_left, fine_start, starts_more}
+use Rattle.std.proofs.lemmas.Bool.{or_left}
+use Rattle.search.proofs.Records.{fine_more, fine_start, starts_more}
 use Rattle.word_set.specs.Bits.{in_set}
 use Rattle.search.specs.State.{head_in}
 use Rattle.search.proofs.family.Family.walk_all.Goals as goal

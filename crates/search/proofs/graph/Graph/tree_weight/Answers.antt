@@ -6,7 +6,7 @@ use Rattle.weight.proofs.Worths.{within_more}
 use Rattle.tree.specs.Chains.{Word, head_of}
 use Rattle.arborescence.specs.Search.{tree_worth}
 use Rattle.search.specs.Arcs.{arc_in}
-use Rattle.search.proofs.Held.{head_next}
+use Rattle.search.proofs.Finds.{head_next}
 use Rattle.search.proofs.Raised.{sum_next, sum_small}
 use Rattle.search.proofs.graph.Graph.tree_weight.Goals as goal
 
