@@ -2,7 +2,7 @@
 use Rattle.std.proofs.Common.{◌≡◌, ℕ, List, Some, None, Ok, Err, Option, refl, ◌∙◌, subst}
 use Rattle.file.proofs.Steps.{same_puts}
 use Rattle.file.specs.Formats.{Format}
-use Rattle.file.specs.Records.{put_records, Told}
+use Rattle.file.specs.Records.{put_records}
 use Rattle.refusal.specs.declared.Refusal.{Refusal}
 use Rattle.sheet.specs.Arcs.{arcs_in, no_arcs}
 use Rattle.sheet.specs.Calls.{Answered, Holds}
@@ -16,11 +16,6 @@ opened U D None s h = (refl, h.1)
 pub refused : (T U D : Type 0) (q : Option Refusal) (e : Refusal) → Answered {T = T} q (Err e) U D → (q ≡ Some e) × U
 refused T U D (Some e') e h = ((cc (h.0)), h.1)
 refused T U D None e h = ((cc (h.0)), (cc (h.0)))
-
--- puts that were all made found no fault
-pub made : {E T : Type 0} (U D : Type 0) (q : Option E) (x : T) → Told q (Ok x) U D → (q ≡ None) × D
-made U D (Some e) x h = ((cc (h.0)), (cc (h.0)))
-made U D None x h = (refl, h.1)
 
 -- the records put on a fresh sheet
 pub from_fresh :

@@ -3,7 +3,7 @@ use Rattle.std.specs.Prelude.{ℕ}
 use Rattle.file.specs.declared.fault.FileFault.TheVariants.{Version, Length, Kind, Sheet, Record}
 use Rattle.file.specs.declared.fault.FileFault.{FileFault}
 use Rattle.refusal.specs.Refusals.{number_of}
-use Rattle.refusal.specs.declared.Refusal.TheVariants.{WordCount, ShortMemory, NoDependent, HeadAbove, SelfLoop, NoEntry, AbsentArc, NoTree, NoMore, Fifty, ShortSpace, NotATree}
+use Rattle.refusal.specs.declared.Refusal.TheVariants.{WordCount}
 use Rattle.refusal.specs.declared.Refusal.{Refusal}
 
 abbrev pub fault_number : FileFault → ℕ
@@ -16,17 +16,7 @@ fault_number (Record f) = number_of f.refusal
 -- an opening is refused for the number of words, byte 4, or else for the memory, which no byte stands for
 abbrev pub opening_place : Refusal → ℕ
 opening_place WordCount = 4
-opening_place ShortMemory = 0
-opening_place NoDependent = 0
-opening_place HeadAbove = 0
-opening_place SelfLoop = 0
-opening_place NoEntry = 0
-opening_place AbsentArc = 0
-opening_place NoTree = 0
-opening_place NoMore = 0
-opening_place Fifty = 0
-opening_place ShortSpace = 0
-opening_place NotATree = 0
+opening_place _ = 0
 
 abbrev pub fault_place : FileFault → ℕ
 fault_place Version = 0

@@ -2,7 +2,7 @@
 use Rattle.std.specs.Prelude.{◌≡◌, ℕ, zero, suc, ◌+◌, ◌*◌, ◌<◌, Bool, true, false, not, List, drop, is_ok, Some, None, Err, Option, Result, slice_index}
 use Rattle.file.specs.Formats.{Format}
 use Rattle.file.specs.declared.fault.RecordFault.{RecordFault}
-use Rattle.refusal.specs.declared.Refusal.TheVariants.{WordCount, ShortMemory, NoDependent, HeadAbove, SelfLoop, NoEntry, AbsentArc, NoTree, NoMore, Fifty, ShortSpace, NotATree}
+use Rattle.refusal.specs.declared.Refusal.TheVariants.{NoDependent, SelfLoop, NoEntry}
 use Rattle.refusal.specs.declared.Refusal.{Refusal}
 use Rattle.sheet.specs.Arcs.{Arcs, named, no_arcs, with_arc}
 use Rattle.sheet.specs.Calls.{arc_check, or_else, refuse_if}
@@ -16,15 +16,7 @@ abbrev pub field_place : ℕ → Refusal → ℕ
 field_place at NoDependent = at + 1
 field_place at SelfLoop = at + 1
 field_place at NoEntry = at + 2
-field_place at HeadAbove = at
-field_place at WordCount = at
-field_place at ShortMemory = at
-field_place at AbsentArc = at
-field_place at NoTree = at
-field_place at NoMore = at
-field_place at Fifty = at
-field_place at ShortSpace = at
-field_place at NotATree = at
+field_place at _ = at
 
 abbrev pub in_record : ℕ → ℕ → Refusal → RecordFault
 in_record k at e = record { «record» = k; place = field_place at e; refusal = e }

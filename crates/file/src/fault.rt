@@ -8,14 +8,15 @@ ghost use Rattle.std.specs.Prelude.{◌≡◌, Some};
 use refusal::Refusal;
 use std::fmt;
 
-// The kinds of weight that a file can hold, by the number in its byte 3.
+// The kinds of weight that a file can hold.
 #[derive(Clone, Copy, PartialEq, Eq, Debug)]
 pub enum FileKind {
-    Score = 1,
-    Cost = 2,
-    Mark = 3,
+    Score,
+    Cost,
+    Mark,
 }
 
+// By the number in byte 3 of a file.
 impl TryFrom<u8> for FileKind {
     type Error = FileFault;
 

@@ -1,4 +1,5 @@
-use Rattle.file.proofs.Fills.{from_fresh, made, opened, refused}
+use Rattle.file.proofs.Fills.{from_fresh, opened, refused}
+use Rattle.file.proofs.Steps.{made}
 use Rattle.file.proofs.reader.read.Goals as goal
 use Rattle.file.specs.Reading.{record_count}
 use Rattle.std.proofs.Common.{rules}
