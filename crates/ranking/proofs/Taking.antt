@@ -1,16 +1,13 @@
 -- A take answers as the law wants, and keeps what the memory stands for.
-use Rattle.std.proofs.Common.{◌≡◌, ℕ, suc, ◌+◌, ◌-◌, ◌*◌, ◌<◌, ◌≤◌, Bool, true, false, cond, eqb, ltb, ◌⊎◌, List, ◌∷◌, length, take, drop, set, Some, None, Ok, Err, Option, Result, sym, refl, ◌∙◌, subst, inl, inr, arith}
-use Rattle.sheet.specs.Candidates.{cell, outranking}
+use Rattle.std.proofs.Common.{◌≡◌, ℕ, suc, ◌+◌, ◌-◌, ◌*◌, ◌<◌, ◌≤◌, Bool, true, false, cond, eqb, ltb, List, ◌∷◌, length, take, drop, set, Some, None, Ok, Err, Option, Result, sym, refl, ◌∙◌, subst, inr, arith}
 use Rattle.sheet.specs.declared.Candidate.{Candidate}
-use Rattle.cells.specs.Accounts.{Accounted, Next}
-use Rattle.queue.specs.Heap.{Ordered}
+use Rattle.cells.specs.Accounts.{Next}
 use Rattle.ranking.specs.Calls.{lengths_of, take_check, SameBeyond, Took}
 use Rattle.ranking.specs.Memory.{Memory, HoldsArcs, HoldsTrees, StandsFor, Waits}
 use Rattle.ranking.specs.Steps.{Comes, RoomFor}
 use Rattle.ranking.specs.Takes.{HandedOut, Tells}
 use Rattle.ranking.specs.Trees.{TreeOf, tree_worth}
 use Rattle.ranking.specs.declared.state.Ranking.{Ranking}
-use Rattle.ranking.specs.declared.state.Taken.{Taken}
 use Rattle.refusal.specs.declared.Refusal.TheVariants.{ShortMemory, ShortSpace, Fifty, NoTree, NoMore}
 use Rattle.refusal.specs.declared.Refusal.{Refusal}
 use Rattle.sheet.proofs.Lists.{nth_set_same}
@@ -19,7 +16,7 @@ use Rattle.sheet.specs.Arcs.{Arcs}
 use Rattle.sheet.specs.Calls.{or_else, refuse_if, checked, too_short}
 use Rattle.sheet.specs.declared.Lengths.{Lengths}
 use Rattle.std.proofs.lemmas.List.{take-set-le}
-use Rattle.std.proofs.lemmas.Bool.{cases_eq, ltb-false, le-ltb, or_parts, eqb-false, eqb-true}
+use Rattle.std.proofs.lemmas.Bool.{ltb-false, le-ltb, or_parts, eqb-false, eqb-true}
 use Rattle.weight.proofs.Worths.{outweighs_not}
 use Rattle.weight.specs.Range.{Range}
 use Rattle.weight.specs.Worth.{Worth}
@@ -73,7 +70,7 @@ module _ {K : Type 0} (worth : K → Worth) (ranges : List Range) where
   pub refused_first : (ranking : Ranking K) (memory : Memory K) (space : List ℕ) (e : Refusal) → take_check ranking.sheet.words (lengths_of memory) (length space) ranking.taken ≡ Some e → Took worth ranges ranking ranking memory memory space space (Err e)
   refused_first ranking memory space e h = record {
     refused = λ d k. (cc, refl, refl, refl);
-    none_left = λ d k _. absurd (differ (sym k ∙ h));
+    none_left = λ d k _. absurd cc;
     words = refl;
     weights = refl;
     sets = refl;
@@ -84,15 +81,12 @@ module _ {K : Type 0} (worth : K → Worth) (ranges : List Range) where
       st,
     );
   }
-    where
-      differ : ◌≡◌ {A = Option Refusal} None (Some e) → ⊥
-      differ q = let z : ◌≡◌ {A = ℕ} 0 1 = cc in absurd (omega arith)
 
   module _ (n : ℕ) (arcs : Arcs K) where
     -- the next tree is handed out truly
     pub hands_out : (ts : List (List ℕ)) (heads others : List ℕ) (k : K) (count : ℕ) → length ts < 50 → Next n (TreeOf n arcs) (tree_worth worth arcs) ts heads (worth k) → others ≡ heads → count ≡ suc (length ts) → HandedOut worth n arcs ts others k count
     hands_out ts heads others k count lt x e c =
-        subst (λ (hs : List ℕ). HandedOut worth n arcs ts hs k count) (sym e)
+        rw e
         (record { few = lt; tree = x.tree; untaken = x.untaken; weighs = x.exact; counts = c; none_heavier = λ t u o. outweighs_not (tree_worth worth arcs t) (worth k) o (x.best t u.0 u.1) })
 
     -- the tree handed out is kept behind those that wait
@@ -104,8 +98,8 @@ module _ {K : Type 0} (worth : K → Worth) (ranges : List Range) where
           nth_set_same candidates 50 x room,
           some,
           record {
-            ordered = subst (Ordered (outranking worth)) (sym e) w.ordered;
-            accounted = subst (Accounted n (TreeOf n arcs) (tree_worth worth arcs) (cell worth n) 50 ts (cell worth n x) x.from) (sym e) w.accounted;
+            ordered = rw e w.ordered;
+            accounted = rw e w.accounted;
           },
         )
 
@@ -114,28 +108,16 @@ module _ {K : Type 0} (worth : K → Worth) (ranges : List Range) where
       (ranking : Ranking K) (memory memory' : Memory K) (space : List ℕ) (none : take_check ranking.sheet.words (lengths_of memory) (length space) ranking.taken ≡ None)
       (weights : memory'.weights ≡ memory.weights) (sets : memory'.sets ≡ memory.sets) (beyond : SameBeyond ranking.sheet.words memory memory')
     where
-      differ : (e : Refusal) → take_check ranking.sheet.words (lengths_of memory) (length space) ranking.taken ≡ Some e → ⊥
-      differ e k = let q : ◌≡◌ {A = Option Refusal} None (Some e) = sym none ∙ k in let z : ◌≡◌ {A = ℕ} 0 1 = cc in absurd (omega arith)
-
       fewer : (arcs : Arcs K) (ts : List (List ℕ)) → StandsFor worth ranges ranking memory arcs ts → length ts < 50
-      fewer arcs ts st =
-          let r = room_for ranking.sheet.words (lengths_of memory) (length space) ranking.taken none in
-          let c = st.counted in
-          by (cases_eq ranking.taken 50) r.left
-        where
-          by : (ranking.taken ≡ 50) ⊎ (ranking.taken ≡ 50 → ⊥) → (ranking.taken ≡ 50 → ⊥) → length ts < 50
-          by (inl e) left = absurd (left e)
-          by (inr e) left = omega (arith, st.counted, ranking.counted)
+      fewer arcs ts st = let r = room_for ranking.sheet.words (lengths_of memory) (length space) ranking.taken none in omega (arith, r.left, st.counted, ranking.counted)
 
       holds_still : (arcs : Arcs K) → HoldsArcs worth ranges ranking.sheet.words memory.weights memory.sets arcs → HoldsArcs worth ranges ranking.sheet.words memory'.weights memory'.sets arcs
-      holds_still arcs h =
-          subst (λ (ws : List K). HoldsArcs worth ranges ranking.sheet.words ws memory'.sets arcs) (sym weights)
-          (subst (λ (ss : List ℕ). HoldsArcs worth ranges ranking.sheet.words memory.weights ss arcs) (sym sets) h)
+      holds_still arcs h = rw (weights, sets) h
 
       -- and no tree was found
       pub none_found : (e : Refusal) → memory'.candidates ≡ memory.candidates → e ≡ cond (eqb ranking.taken 0) NoTree NoMore → Seeks ranking.sheet.words ranking.taken ranking.waiting memory (Err e) memory'.candidates → Took worth ranges ranking ranking memory memory' space space (Err e)
       none_found e same why comes = record {
-        refused = λ d k. absurd (differ d k);
+        refused = λ d k. absurd cc;
         none_left = λ d _ k. (let q : d ≡ e = cc in q ∙ why, refl, same, refl);
         words = refl;
         weights = weights;
@@ -144,7 +126,7 @@ module _ {K : Type 0} (worth : K → Worth) (ranges : List Range) where
         space_beyond = refl;
         law = λ arcs ts st. (
           λ _ _. comes arcs ts st.sheet st.counted (fewer arcs ts st) st.trees,
-          record { sheet = holds_still arcs st.sheet; counted = st.counted; trees = subst (λ (cs : List (Candidate K)). HoldsTrees worth ranking.sheet.words arcs ts cs ranking.waiting) (sym same) st.trees },
+          record { sheet = holds_still arcs st.sheet; counted = st.counted; trees = rw same st.trees },
         );
       }
 
@@ -155,8 +137,8 @@ module _ {K : Type 0} (worth : K → Worth) (ranges : List Range) where
           drop ranking.sheet.words space' ≡ drop ranking.sheet.words space → Seeks ranking.sheet.words ranking.taken ranking.waiting memory (Ok (x, waiting)) candidates →
           Took worth ranges ranking ranking' memory memory' space space' (Ok (record { weight = x.weight; count = count }))
       tree_found ranking' space' x waiting count candidates words taken more wait few room cs front rest comes = record {
-        refused = λ d k. absurd (differ d k);
-        none_left = λ d _ k. absurd (apart d k);
+        refused = λ d k. absurd cc;
+        none_left = λ d _ k. absurd cc;
         words = words;
         weights = weights;
         sets = sets;
@@ -168,15 +150,9 @@ module _ {K : Type 0} (worth : K → Worth) (ranges : List Range) where
             let counted = st.counted in (
               λ _ _. hands_out n arcs ts (take n x.heads) (take n space') x.weight count (fewer arcs ts st) c.0 front (omega arith),
               record {
-                sheet = subst (λ (m : ℕ). HoldsArcs worth ranges m memory'.weights memory'.sets arcs) (sym words) (holds_still arcs st.sheet);
+                sheet = rw words (holds_still arcs st.sheet);
                 counted = omega arith;
-                trees = subst (λ (m : ℕ). HoldsTrees worth m arcs (take n space' ∷ ts) memory'.candidates ranking'.waiting) (sym words)
-                    (subst (λ (m : ℕ). HoldsTrees worth n arcs (take n space' ∷ ts) memory'.candidates m) (sym wait)
-                    (subst (λ (xs : List (Candidate K)). HoldsTrees worth n arcs (take n space' ∷ ts) xs waiting) (sym cs)
-                    (subst (λ (hs : List ℕ). HoldsTrees worth n arcs (hs ∷ ts) (set candidates 50 x) waiting) (sym front) (holds_next n arcs (take n x.heads ∷ ts) x candidates waiting room few (omega arith) c.1))));
+                trees = rw (words, wait, cs, front) (holds_next n arcs (take n x.heads ∷ ts) x candidates waiting room few (omega arith) c.1);
               },
             );
       }
-        where
-          apart : (d : Refusal) → ◌≡◌ {A = Result (Taken K) Refusal} (Ok (record { weight = x.weight; count = count })) (Err d) → ⊥
-          apart d k = let z : ◌≡◌ {A = ℕ} 0 1 = cc in absurd (omega arith)
