@@ -32,7 +32,7 @@ same_more n a b c p q = record {
 
 -- the same parts are as long as before
 pub still_long : {K : Type 0} (n : ℕ) (before after : Loans K) → SameLoans before after → too_short n (lengths_of (lists_of before)) ≡ false → too_short n (lengths_of (lists_of after)) ≡ false
-still_long n before after p short = rw (p.weights_long, p.sets_long, p.candidates_long, p.nodes_long, p.merges_long, p.potentials_long) short
+still_long n before after p short = subst (λ (l : Lengths). too_short n l ≡ false) (sym p.long) short
 
 pub same_on : {K : Type 0} (a b c : Loans K) → SameLoans a b → SameLoans b c → SameLoans a c
 same_on a b c p q =
@@ -43,12 +43,7 @@ same_on a b c p q =
       nodes = q.nodes ∙ p.nodes;
       merges = q.merges ∙ p.merges;
       potentials = q.potentials ∙ p.potentials;
-      weights_long = q.weights_long ∙ p.weights_long;
-      sets_long = q.sets_long ∙ p.sets_long;
-      candidates_long = q.candidates_long ∙ p.candidates_long;
-      nodes_long = q.nodes_long ∙ p.nodes_long;
-      merges_long = q.merges_long ∙ p.merges_long;
-      potentials_long = q.potentials_long ∙ p.potentials_long;
+      long = q.long ∙ p.long;
     }
 
 module _ {K : Type 0} (worth : K → Worth) (ranges : List Range) (n : ℕ) (first : Memory K) where

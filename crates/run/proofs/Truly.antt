@@ -36,21 +36,15 @@ module _ {K : Type 0} (worth : K → Worth) (ranges : List Range) (n : ℕ) wher
   turn run (Put h d k) a old q e = rw (no_place (ranks run) a _ e q) (old e)
   turn run (Strike h d) a old q e = rw (no_place (ranks run) a _ e q) (old e)
   turn run Begin Done old q e = begun (standing run)
-  turn run Begin (Handed hs t) old q e = old e
-  turn run Begin (Refused w) old q e = old e
-  turn run Begin Misplaced old q e = old e
-  turn run (Take s) Done old q e = old e
+  turn run Begin _ old q e = old e
   turn run (Take s) (Handed hs t) old q e = by (cases_lt s n) (q.1 e)
     where
       by : (s < n) ⊎ (n ≤ s) → TakeAnswers worth ranges n (standing run) (taken n run) s (Handed hs t) → TrueRanking worth n (standing run) (take n hs ∷ taken n run)
       by (inl lt) a = absurd (let z = a.0 lt in cc)
       by (inr le) a = handed (standing run) (taken n run) (take n hs) t.weight t.count (a.1 le).0 (old e)
-  turn run (Take s) (Refused w) old q e = old e
-  turn run (Take s) Misplaced old q e = old e
+  turn run (Take s) _ old q e = old e
   turn run End Done old q e = absurd cc
-  turn run End (Handed hs t) old q e = old e
-  turn run End (Refused w) old q e = old e
-  turn run End Misplaced old q e = old e
+  turn run End _ old q e = old e
 
   pub truly : (run : Run K) → Keeps worth ranges n run → ranks run ≡ true → TrueRanking worth n (standing run) (taken n run)
   truly [] k e = absurd cc

@@ -36,11 +36,9 @@ module _ {K : Type 0} (worth : K → Worth) (ranges : List Range) where
 
   -- a call that has no place in a ranking
   pub misplaced : (ranking : Ranking K) (memory : Memory K) (call : Call K) → ((s : ℕ) → call ≡ Take s → ⊥) → (call ≡ End → ⊥) → Stepped worth ranges (Ranked ranking) (Ranked ranking) memory memory call Misplaced
-  misplaced ranking memory (Put h d k) a b = record { words = refl; ranking = refl; rest = same_all _ memory; law = λ arcs ts enough st. (refl, st) }
-  misplaced ranking memory (Strike h d) a b = record { words = refl; ranking = refl; rest = same_all _ memory; law = λ arcs ts enough st. (refl, st) }
-  misplaced ranking memory Begin a b = record { words = refl; ranking = refl; rest = same_all _ memory; law = λ arcs ts enough st. (refl, st) }
   misplaced ranking memory (Take s) a b = absurd (a s refl)
   misplaced ranking memory End a b = absurd (b refl)
+  misplaced ranking memory _ a b = record { words = refl; ranking = refl; rest = same_all _ memory; law = λ arcs ts enough st. (refl, st) }
 
   module _ (sheet : Sheet K) (memory memory' : Memory K) (h d : ℕ) where
     abbrev n : ℕ

@@ -22,40 +22,22 @@ Run K = List (Turn K)
 
 -- ---- what a run comes to
 
--- what holds after a call that was done, else what held before
-abbrev pub if_done : {K X : Type 0} → Answer K → (now before : X) → X
-if_done Done now before = now
-if_done (Handed heads t) now before = before
-if_done (Refused e) now before = before
-if_done Misplaced now before = before
-
 -- the latest accepted put or strike that names an arc decides it
 abbrev pub arcs_after : {K : Type 0} → Call K → Answer K → Arcs K → Arcs K
-arcs_after (Put h d k) a arcs = if_done a (with_arc h d (Some k) arcs) arcs
-arcs_after (Strike h d) a arcs = if_done a (with_arc h d None arcs) arcs
-arcs_after Begin a arcs = arcs
-arcs_after (Take s) a arcs = arcs
-arcs_after End a arcs = arcs
+arcs_after (Put h d k) Done arcs = with_arc h d (Some k) arcs
+arcs_after (Strike h d) Done arcs = with_arc h d None arcs
+arcs_after _ _ arcs = arcs
 
 -- the arcs that stand after a run on a fresh sheet
 abbrev pub standing : {K : Type 0} → Run K → Arcs K
 standing [] = no_arcs
 standing (t ∷ run) = arcs_after t.call t.answer (standing run)
 
--- an accepted take takes the tree whose heads it hands out
-abbrev pub tree_taken : {K : Type 0} → ℕ → Answer K → List (List ℕ) → List (List ℕ)
-tree_taken n (Handed heads t) ts = take n heads ∷ ts
-tree_taken n Done ts = ts
-tree_taken n (Refused e) ts = ts
-tree_taken n Misplaced ts = ts
-
--- and a begin starts with no tree taken
+-- a begin starts with no tree taken, and an accepted take takes the tree whose heads it hands out
 abbrev pub taken_after : {K : Type 0} → ℕ → Call K → Answer K → List (List ℕ) → List (List ℕ)
-taken_after n Begin a ts = if_done a [] ts
-taken_after n (Take s) a ts = tree_taken n a ts
-taken_after n (Put h d k) a ts = ts
-taken_after n (Strike h d) a ts = ts
-taken_after n End a ts = ts
+taken_after n Begin Done ts = []
+taken_after n (Take s) (Handed heads t) ts = take n heads ∷ ts
+taken_after n _ _ ts = ts
 
 -- the trees handed out since the latest begin, the latest first
 abbrev pub taken : {K : Type 0} → ℕ → Run K → List (List ℕ)
@@ -63,11 +45,9 @@ taken n [] = []
 taken n (t ∷ run) = taken_after n t.call t.answer (taken n run)
 
 abbrev pub ranks_after : {K : Type 0} → Call K → Answer K → Bool → Bool
-ranks_after Begin a b = if_done a true b
-ranks_after End a b = if_done a false b
-ranks_after (Take s) a b = b
-ranks_after (Put h d k) a b = b
-ranks_after (Strike h d) a b = b
+ranks_after Begin Done b = true
+ranks_after End Done b = false
+ranks_after _ _ b = b
 
 -- whether a ranking stands after a run
 abbrev pub ranks : {K : Type 0} → Run K → Bool
@@ -93,8 +73,7 @@ module _ {K : Type 0} (worth : K → Worth) (ranges : List Range) (n : ℕ) wher
   abbrev pub TakeTells : Arcs K → List (List ℕ) → Answer K → Type 0
   TakeTells arcs ts (Handed heads t) = HandedOut worth n arcs ts (take n heads) t.weight t.count × (drop n heads ≡ replicate (40 - n) 0)
   TakeTells arcs ts (Refused e) = NoneHanded worth n arcs ts e
-  TakeTells arcs ts Done = ⊥
-  TakeTells arcs ts Misplaced = ⊥
+  TakeTells arcs ts _ = ⊥
 
   -- with less space than a tree needs a take tells only that
   abbrev pub TakeAnswers : Arcs K → List (List ℕ) → ℕ → Answer K → Type 0
