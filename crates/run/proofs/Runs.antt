@@ -1,12 +1,12 @@
 -- A run grows by one turn, and what it comes to in the end.
-use Rattle.std.proofs.Common.{◌≡◌, ℕ, ◌+◌, ◌<◌, ◌≤◌, Bool, false, ◌||◌, eqb, ltb, List, [], ◌∷◌, ◌++◌, map, reverse, length, get_or, take, drop, set, Some, None, Ok, Err, Option, sym, refl, ap, ◌∙◌, subst, arith}
+use Rattle.std.proofs.Common.{◌≡◌, ℕ, ◌+◌, ◌<◌, ◌≤◌, false, ◌||◌, eqb, ltb, List, [], ◌∷◌, ◌++◌, map, reverse, length, get_or, take, drop, set, Some, None, Ok, Err, Option, sym, refl, ap, ◌∙◌, subst, arith}
 use Rattle.ranking.specs.Calls.{lengths_of}
 use Rattle.ranking.specs.Memory.{Memory}
-use Rattle.refusal.specs.declared.Refusal.TheVariants.{WordCount, ShortMemory, ShortSpace}
+use Rattle.refusal.specs.declared.Refusal.TheVariants.{WordCount, ShortMemory}
 use Rattle.refusal.specs.declared.Refusal.{Refusal}
 use Rattle.run.specs.Loans.{lists_of, SameLoans}
 use Rattle.run.specs.declared.Memory.{Memory as Loans}
-use Rattle.run.specs.Law.{Run, standing, taken, taken_after, ranks, ranks_after, Answers, Keeps}
+use Rattle.run.specs.Law.{Run, standing, taken, ranks, ranks_after, Keeps}
 use Rattle.run.specs.Steps.{words_of, ranked, SameRest, Is, Stepped, Ran, run_check}
 use Rattle.run.specs.declared.Call.{Call}
 use Rattle.run.specs.declared.State.TheVariants.{Open, Ranked}
@@ -19,7 +19,7 @@ use Rattle.sheet.specs.Calls.{refuse_if, open_check, too_short, Answered, Holds}
 use Rattle.sheet.specs.declared.Lengths.{Lengths}
 use Rattle.sheet.specs.declared.Sheet.{Sheet}
 use Rattle.std.proofs.lemmas.List.{take_more_set, take_more, map_push, reverse-append, drop-set-lt, drop-drop, take_all}
-use Rattle.std.proofs.lemmas.Bool.{le-ltb, lt-ltb}
+use Rattle.std.proofs.lemmas.Bool.{le-ltb}
 use Rattle.weight.specs.Range.{Range}
 use Rattle.weight.specs.Worth.{Worth}
 
@@ -32,7 +32,7 @@ same_more n a b c p q = record {
 
 -- the same parts are as long as before
 pub still_long : {K : Type 0} (n : ℕ) (before after : Loans K) → SameLoans before after → too_short n (lengths_of (lists_of before)) ≡ false → too_short n (lengths_of (lists_of after)) ≡ false
-still_long n before after p short = rw (p.weights_long, p.sets_long, p.candidates_long, p.nodes_long, p.merges_long, p.potentials_long) short
+still_long n before after p short = subst (λ (l : Lengths). too_short n l ≡ false) (sym p.long) short
 
 pub same_on : {K : Type 0} (a b c : Loans K) → SameLoans a b → SameLoans b c → SameLoans a c
 same_on a b c p q =
@@ -43,12 +43,7 @@ same_on a b c p q =
       nodes = q.nodes ∙ p.nodes;
       merges = q.merges ∙ p.merges;
       potentials = q.potentials ∙ p.potentials;
-      weights_long = q.weights_long ∙ p.weights_long;
-      sets_long = q.sets_long ∙ p.sets_long;
-      candidates_long = q.candidates_long ∙ p.candidates_long;
-      nodes_long = q.nodes_long ∙ p.nodes_long;
-      merges_long = q.merges_long ∙ p.merges_long;
-      potentials_long = q.potentials_long ∙ p.potentials_long;
+      long = q.long ∙ p.long;
     }
 
 module _ {K : Type 0} (worth : K → Worth) (ranges : List Range) (n : ℕ) (first : Memory K) where
@@ -64,18 +59,18 @@ module _ {K : Type 0} (worth : K → Worth) (ranges : List Range) (n : ℕ) (fir
   pub goes_on : (state state' : State K) (memory memory' : Memory K) (run : Run K) (t : Turn K) → too_short n (lengths_of memory) ≡ false → Stepped worth ranges state state' memory memory' t.call t.answer → Going state memory run → Going state' memory' (t ∷ run)
   goes_on state state' memory memory' run t enough s g =
       let e = g.words in
-      let l = s.law (standing run) (taken n run) (subst (λ (m : ℕ). too_short m (lengths_of memory) ≡ false) (sym e) enough) g.is in
+      let l = s.law (standing run) (taken n run) (rw e enough) g.is in
       record {
         words = s.words ∙ e;
         ranking = s.ranking ∙ ap (ranks_after t.call t.answer) g.ranking;
-        rest = same_more n first memory memory' g.rest (subst (λ (m : ℕ). SameRest m memory memory') e s.rest);
-        is = subst (λ (m : ℕ). Is worth ranges state' memory' (standing (t ∷ run)) (taken_after m t.call t.answer (taken n run))) e l.1;
-        keeps = (subst (λ (b : Bool). Answers worth ranges n (standing run) (taken n run) b t.call t.answer) g.ranking (subst (λ (m : ℕ). Answers worth ranges m (standing run) (taken n run) (ranked state) t.call t.answer) e l.0), g.keeps);
+        rest = same_more n first memory memory' g.rest (rw e at s.rest);
+        is = rw e at l.1;
+        keeps = (rw (e, g.ranking) at l.0, g.keeps);
       }
 
   -- the arcs that the memory holds
   arcs_held : (state : State K) (memory : Memory K) (run : Run K) → Going state memory run → (h d : ℕ) → arcs_in n memory.weights memory.sets h d ≡ standing run h d
-  arcs_held state memory run g h d = subst (λ (m : ℕ). arcs_in m memory.weights memory.sets h d ≡ standing run h d) g.words (by state g.is)
+  arcs_held state memory run g h d = rw g.words at (by state g.is)
     where
       by : (state : State K) → Is worth ranges state memory (standing run) (taken n run) → arcs_in (words_of state) memory.weights memory.sets h d ≡ standing run h d
       by (Open s) is = is.standing h d
@@ -122,7 +117,7 @@ module _ {K : Type 0} (worth : K → Worth) (ranges : List Range) (n : ℕ) (fir
       words = e;
       ranking = refl;
       rest = same_all n first;
-      is = record { standing = λ a b. subst (λ (m : ℕ). arcs_in m first.weights first.sets a b ≡ None) (sym e) (h.standing a b); entries = λ a b k q. let y : ◌≡◌ {A = ℕ} 0 1 = cc in absurd (omega arith) };
+      is = record { standing = λ a b. rw e (h.standing a b); entries = λ a b k q. absurd cc };
       keeps = tt;
     };
   }
@@ -131,18 +126,15 @@ module _ {K : Type 0} (worth : K → Worth) (ranges : List Range) (n : ℕ) (fir
 
 pub was_opened : {T : Type 0} (o : Option Refusal) (s : T) (unchanged done : Type 0) → Answered o (Ok s) unchanged done → (o ≡ None) × done
 was_opened None s unchanged done a = (refl, a.1)
-was_opened (Some e) s unchanged done a = let z = a.0 in let y : ◌≡◌ {A = ℕ} 0 1 = cc in absurd (omega arith)
+was_opened (Some e) s unchanged done a = let z = a.0 in absurd cc
 
 pub was_refused : (T : Type 0) (o : Option Refusal) (e : Refusal) (unchanged done : Type 0) → Answered {T = T} o (Err e) unchanged done → (o ≡ Some e) × unchanged
-was_refused T None e unchanged done a = let z = a.0 in let y : ◌≡◌ {A = ℕ} 0 1 = cc in absurd (omega arith)
+was_refused T None e unchanged done a = let z = a.0 in absurd cc
 was_refused T (Some d) e unchanged done a = let z = a.0 in (let y : d ≡ e = cc in ap Some y, a.1)
 
 pub long_enough : (n : ℕ) (l : Lengths) → open_check n l ≡ None → too_short n l ≡ false
 long_enough n l none = last_passes (too_short n l) ShortMemory (passes (eqb n 0 || ltb 40 n) WordCount (refuse_if (too_short n l) ShortMemory) none).1
 
--- the check of a run, where there are turns enough and where there are not
+-- the check of a run, where there are turns enough
 pub check_on : (n : ℕ) (l : Lengths) (calls turns : ℕ) → calls ≤ turns → run_check n l calls turns ≡ open_check n l
 check_on n l calls turns le = rw (le-ltb turns calls le) refl
-
-pub check_short : (n : ℕ) (l : Lengths) (calls turns : ℕ) → turns < calls → run_check n l calls turns ≡ Some ShortSpace
-check_short n l calls turns lt = rw (lt-ltb turns calls lt) refl

@@ -27,37 +27,25 @@ module _ {K : Type 0} (worth : K → Worth) (ranges : List Range) (n : ℕ) wher
     none_skipped = λ t is m. (λ o. h.none_heavier t (is, λ a. m (inr a)) (subst (Outweighs (tree_worth worth arcs t)) (sym h.weighs) o), r.none_skipped t is (λ a. m (inr a)));
   }
 
-  -- with a ranking there is no put, strike or begin
-  no_place : (b : Bool) (a : Answer K) → b ≡ true → Done ≡ cond b Misplaced a → ⊥
-  no_place b a e q = let z : ◌≡◌ {A = Answer K} Done Misplaced = q ∙ ap (λ (x : Bool). cond x Misplaced a) e in let y : ◌≡◌ {A = ℕ} 0 1 = cc in omega arith
+  -- what has no place in a ranking is answered so
+  no_place : (b : Bool) (a x : Answer K) → b ≡ true → a ≡ cond b Misplaced x → a ≡ Misplaced
+  no_place b a x e q = q ∙ ap (λ (c : Bool). cond c Misplaced x) e
 
   turn : (run : Run K) (call : Call K) (answer : Answer K) → (ranks run ≡ true → TrueRanking worth n (standing run) (taken n run)) → Answers worth ranges n (standing run) (taken n run) (ranks run) call answer →
       ranks (record { call = call; answer = answer } ∷ run) ≡ true → TrueRanking worth n (standing (record { call = call; answer = answer } ∷ run)) (taken n (record { call = call; answer = answer } ∷ run))
-  turn run (Put h d k) Done old a e = absurd (no_place (ranks run) _ e a)
-  turn run (Put h d k) (Handed hs t) old a e = old e
-  turn run (Put h d k) (Refused w) old a e = old e
-  turn run (Put h d k) Misplaced old a e = old e
-  turn run (Strike h d) Done old a e = absurd (no_place (ranks run) _ e a)
-  turn run (Strike h d) (Handed hs t) old a e = old e
-  turn run (Strike h d) (Refused w) old a e = old e
-  turn run (Strike h d) Misplaced old a e = old e
-  turn run Begin Done old a e = begun (standing run)
-  turn run Begin (Handed hs t) old a e = old e
-  turn run Begin (Refused w) old a e = old e
-  turn run Begin Misplaced old a e = old e
-  turn run (Take s) Done old a e = old e
-  turn run (Take s) (Handed hs t) old a e = by (cases_lt s n) (a.1 e)
+  turn run (Put h d k) a old q e = rw (no_place (ranks run) a _ e q) (old e)
+  turn run (Strike h d) a old q e = rw (no_place (ranks run) a _ e q) (old e)
+  turn run Begin Done old q e = begun (standing run)
+  turn run Begin _ old q e = old e
+  turn run (Take s) (Handed hs t) old q e = by (cases_lt s n) (q.1 e)
     where
       by : (s < n) ⊎ (n ≤ s) → TakeAnswers worth ranges n (standing run) (taken n run) s (Handed hs t) → TrueRanking worth n (standing run) (take n hs ∷ taken n run)
-      by (inl lt) q = absurd (let z = q.0 lt in let y : ◌≡◌ {A = ℕ} 0 1 = cc in omega arith)
-      by (inr le) q = handed (standing run) (taken n run) (take n hs) t.weight t.count (q.1 le) (old e)
-  turn run (Take s) (Refused w) old a e = old e
-  turn run (Take s) Misplaced old a e = old e
-  turn run End Done old a e = absurd (let y : ◌≡◌ {A = ℕ} 0 1 = cc in omega arith)
-  turn run End (Handed hs t) old a e = old e
-  turn run End (Refused w) old a e = old e
-  turn run End Misplaced old a e = old e
+      by (inl lt) a = absurd (let z = a.0 lt in cc)
+      by (inr le) a = handed (standing run) (taken n run) (take n hs) t.weight t.count (a.1 le).0 (old e)
+  turn run (Take s) _ old q e = old e
+  turn run End Done old q e = absurd cc
+  turn run End _ old q e = old e
 
   pub truly : (run : Run K) → Keeps worth ranges n run → ranks run ≡ true → TrueRanking worth n (standing run) (taken n run)
-  truly [] k e = absurd (let y : ◌≡◌ {A = ℕ} 0 1 = cc in omega arith)
+  truly [] k e = absurd cc
   truly (t ∷ run) k e = turn run t.call t.answer (truly run k.1) k.0 e

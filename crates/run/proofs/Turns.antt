@@ -1,13 +1,12 @@
 -- Single turns of a run.
-use Rattle.std.proofs.Common.{◌≡◌, ℕ, ◌+◌, ◌*◌, ◌<◌, ◌≤◌, min, Bool, true, false, cond, not, ◌||◌, ltb, ◌⊎◌, List, ◌∷◌, ◌++◌, length, take, drop, is_some, is_ok, Some, None, Ok, Err, Option, Result, sym, refl, ap, ◌∙◌, subst, inl, inr, arith}
+use Rattle.std.proofs.Common.{◌≡◌, ℕ, ◌+◌, ◌-◌, ◌*◌, ◌<◌, ◌≤◌, min, Bool, true, false, cond, not, ltb, ◌⊎◌, List, ◌++◌, length, drop, replicate, is_some, Some, None, Ok, Err, Option, Result, sym, refl, ap, ◌∙◌, inl, inr, arith}
 use Rattle.ranking.specs.Calls.{lengths_of, take_check, SameBeyond, Took}
 use Rattle.ranking.specs.Memory.{Memory, HoldsArcs, StandsFor}
-use Rattle.ranking.specs.Takes.{HandedOut}
 use Rattle.ranking.specs.declared.state.Ranking.{Ranking}
 use Rattle.ranking.specs.declared.state.Taken.{Taken}
 use Rattle.refusal.specs.declared.Refusal.TheVariants.{NoEntry, AbsentArc, ShortSpace}
 use Rattle.refusal.specs.declared.Refusal.{Refusal}
-use Rattle.run.specs.Law.{arcs_after, ranks_after, answer_by, Answers}
+use Rattle.run.specs.Law.{arcs_after, taken_after, ranks_after, answer_by, TakeAnswers, Answers}
 use Rattle.run.specs.Steps.{told_by, SameRest, Stepped}
 use Rattle.run.specs.declared.Answer.TheVariants.{Done, Handed, Refused, Misplaced}
 use Rattle.run.specs.declared.Answer.{Answer}
@@ -19,7 +18,7 @@ use Rattle.sheet.proofs.Tables.{last_passes}
 use Rattle.sheet.specs.Arcs.{Arcs, arcs_in, with_arc, named}
 use Rattle.sheet.specs.Calls.{or_else, refuse_if, memory_check, arc_check, ends_check, put_check, strike_check, too_short, Answered, Holds}
 use Rattle.sheet.specs.declared.Sheet.{Sheet}
-use Rattle.std.proofs.lemmas.List.{take-append-le}
+use Rattle.std.proofs.lemmas.List.{take-append-le, drop-append-le, drop-replicate}
 use Rattle.std.proofs.lemmas.Bool.{cases_lt, lt-ltb, or_parts, not-false}
 use Rattle.weight.specs.Range.{Range, entry_in}
 use Rattle.weight.specs.Worth.{Worth}
@@ -31,22 +30,15 @@ same_all n memory = record { weights = refl; sets = refl; others = record { cand
 other_arc : {K : Type 0} (h d : ℕ) (w : Option K) (a b : Arcs K) → ((h d : ℕ) → a h d ≡ b h d) → (h' d' : ℕ) → with_arc h d w a h' d' ≡ with_arc h d w b h' d'
 other_arc h d w a b same h' d' = ap (cond (named h d h' d') w) (same h' d')
 
--- where the memory is long enough only the rest of the checks count
-memory_passes : (n weights sets : ℕ) → (ltb weights (n * (n + 1)) || ltb sets n) ≡ false → memory_check n weights sets ≡ None
-memory_passes n weights sets e = rw e refl
-
 module _ {K : Type 0} (worth : K → Worth) (ranges : List Range) where
   pub step_as : (state state' : State K) (memory memory' : Memory K) (call call' : Call K) (a a' : Answer K) → call ≡ call' → a ≡ a' → Stepped worth ranges state state' memory memory' call' a' → Stepped worth ranges state state' memory memory' call a
-  step_as state state' memory memory' call call' a a' p q s =
-      subst (λ (x : Call K). Stepped worth ranges state state' memory memory' x a) (sym p) (subst (Stepped worth ranges state state' memory memory' call') (sym q) s)
+  step_as state state' memory memory' call call' a a' p q s = rw (p, q) s
 
   -- a call that has no place in a ranking
   pub misplaced : (ranking : Ranking K) (memory : Memory K) (call : Call K) → ((s : ℕ) → call ≡ Take s → ⊥) → (call ≡ End → ⊥) → Stepped worth ranges (Ranked ranking) (Ranked ranking) memory memory call Misplaced
-  misplaced ranking memory (Put h d k) a b = record { words = refl; ranking = refl; rest = same_all _ memory; law = λ arcs ts enough st. (refl, st) }
-  misplaced ranking memory (Strike h d) a b = record { words = refl; ranking = refl; rest = same_all _ memory; law = λ arcs ts enough st. (refl, st) }
-  misplaced ranking memory Begin a b = record { words = refl; ranking = refl; rest = same_all _ memory; law = λ arcs ts enough st. (refl, st) }
   misplaced ranking memory (Take s) a b = absurd (a s refl)
   misplaced ranking memory End a b = absurd (b refl)
+  misplaced ranking memory _ a b = record { words = refl; ranking = refl; rest = same_all _ memory; law = λ arcs ts enough st. (refl, st) }
 
   module _ (sheet : Sheet K) (memory memory' : Memory K) (h d : ℕ) where
     abbrev n : ℕ
@@ -72,8 +64,7 @@ module _ {K : Type 0} (worth : K → Worth) (ranges : List Range) where
 
     -- the memory is as it was
     unchanged : memory'.weights ≡ memory.weights → memory'.sets ≡ memory.sets → (arcs : Arcs K) → HoldsArcs worth ranges sheet.words memory.weights memory.sets arcs → HoldsArcs worth ranges sheet.words memory'.weights memory'.sets arcs
-    unchanged p q arcs old =
-        subst (λ (ws : List K). HoldsArcs worth ranges sheet.words ws memory'.sets arcs) (sym p) (subst (λ (ss : List ℕ). HoldsArcs worth ranges sheet.words memory.weights ss arcs) (sym q) old)
+    unchanged p q arcs old = rw (p, q) old
 
     -- a put or a strike: where no check fails the arc gets w
     module _ (others : SameBeyond sheet.words memory memory') (call : Call K) (w : Option K) (check : Option Refusal) where
@@ -85,18 +76,15 @@ module _ {K : Type 0} (worth : K → Worth) (ranges : List Range) where
           Stepped worth ranges (Open sheet) (Open sheet) memory memory' call (told_by r)
       arc_turn entry still done kept law as-was same r answered = by check refl r answered
         where
-          no_result : (b c : Bool) → b ≡ c → b ≡ false → c ≡ true → ⊥
-          no_result b c e p q = let z : ◌≡◌ {A = Bool} false true = sym p ∙ (e ∙ q) in let y : ◌≡◌ {A = ℕ} 0 1 = cc in omega arith
-
           by : (o : Option Refusal) → check ≡ o → (r : Result (Unit {0}) Refusal) → Answered o r as-was (Holds sheet.words (with_arc h d w (arcs_in sheet.words memory.weights memory.sets)) memory.weights memory'.weights memory.sets memory'.sets) → Stepped worth ranges (Open sheet) (Open sheet) memory memory' call (told_by r)
           by None e (Ok u) a = record {
             words = refl;
             ranking = sym (still Done);
             rest = record { weights = a.1.weights_beyond; sets = a.1.sets_beyond; others = others };
-            law = λ arcs ts enough old. (subst (λ (o : Option Refusal). Answers worth ranges sheet.words arcs ts false call (answer_by o)) e (law arcs ts enough old), subst (λ (now : Arcs K). HoldsArcs worth ranges sheet.words memory'.weights memory'.sets now) (sym (done arcs)) (changed w (entry e) arcs old a.1));
+            law = λ arcs ts enough old. (rw e at (law arcs ts enough old), rw (done arcs) (changed w (entry e) arcs old a.1));
           }
-          by None e (Err v) a = absurd (no_result (is_ok {T = Unit {0}} {E = Refusal} (Err v)) true a.0 refl refl)
-          by (Some v) e (Ok u) a = absurd (no_result (is_ok {T = Unit {0}} {E = Refusal} (Err v)) true (ap is_ok (sym a.0)) refl refl)
+          by None e (Err v) a = absurd (let z = a.0 in cc)
+          by (Some v) e (Ok u) a = absurd (let z = a.0 in cc)
           by (Some v) e (Err x) a =
               let p = same a.1 in
               let s : x ≡ v = let z = a.0 in cc in
@@ -104,15 +92,12 @@ module _ {K : Type 0} (worth : K → Worth) (ranges : List Range) where
                 words = refl;
                 ranking = sym (still (Refused x));
                 rest = record { weights = ap (drop (sheet.words * (sheet.words + 1))) p.0; sets = ap (drop sheet.words) p.1; others = others };
-                law = λ arcs ts enough old. (
-                  subst (λ (y : Refusal). Answers worth ranges sheet.words arcs ts false call (Refused y)) (sym s) (subst (λ (o : Option Refusal). Answers worth ranges sheet.words arcs ts false call (answer_by o)) e (law arcs ts enough old)),
-                  subst (λ (now : Arcs K). HoldsArcs worth ranges sheet.words memory'.weights memory'.sets now) (sym (kept x arcs)) (unchanged p.0 p.1 arcs old),
-                );
+                law = λ arcs ts enough old. (rw s (rw e at (law arcs ts enough old)), rw (kept x arcs) (unchanged p.0 p.1 arcs old));
               }
 
     last_none : (o next : Option Refusal) → or_else o next ≡ None → next ≡ None
     last_none None next z = z
-    last_none (Some e) next z = let y : ◌≡◌ {A = ℕ} 0 1 = cc in absurd (omega arith)
+    last_none (Some e) next z = cc
 
     pub put_turn : SameBeyond sheet.words memory memory' → (k : K) (r : Result (Unit {0}) Refusal) →
         Answered (put_check sheet.words (length memory.weights) (length memory.sets) h d (entry_in ranges (worth k))) r ((memory'.weights ≡ memory.weights) × (memory'.sets ≡ memory.sets))
@@ -123,7 +108,7 @@ module _ {K : Type 0} (worth : K → Worth) (ranges : List Range) where
         (λ e v q.
         let z = last_none (ends_check sheet.words (length memory.weights) (length memory.sets) h d) (refuse_if (not (entry_in ranges (worth k))) NoEntry) e in
         let s : v ≡ k = cc in
-        subst (λ (x : K). entry_in ranges (worth x) ≡ true) (sym s) (not-false (entry_in ranges (worth k)) (last_passes (not (entry_in ranges (worth k))) NoEntry z)))
+        rw s (not-false (entry_in ranges (worth k)) (last_passes (not (entry_in ranges (worth k))) NoEntry z)))
         (λ a. refl) (λ arcs. refl) (λ e arcs. refl)
         (λ arcs ts enough old. ap (λ (o : Option Refusal). answer_by {K = K} (or_else (or_else o (arc_check sheet.words h d)) (refuse_if (not (entry_in ranges (worth k))) NoEntry))) (long enough))
         ((memory'.weights ≡ memory.weights) × (memory'.sets ≡ memory.sets)) (λ p. p) r answered
@@ -134,49 +119,52 @@ module _ {K : Type 0} (worth : K → Worth) (ranges : List Range) where
         Stepped worth ranges (Open sheet) (Open sheet) memory memory' (Strike h d) (told_by r)
     strike_turn others same r answered =
         arc_turn others (Strike h d) None (strike_check sheet.words (length memory.weights) (length memory.sets) h d (is_some (arcs_in sheet.words memory.weights memory.sets h d)))
-        (λ e v q. let y : ◌≡◌ {A = ℕ} 0 1 = cc in absurd (omega arith))
+        (λ e v q. cc)
         (λ a. refl) (λ arcs. refl) (λ e arcs. refl)
         (λ arcs ts enough old.
         ap (λ (o : Option Refusal). answer_by {K = K} (or_else (or_else o (arc_check sheet.words h d)) (refuse_if (not (is_some (arcs_in sheet.words memory.weights memory.sets h d))) AbsentArc))) (long enough)
         ∙ ap (λ (o : Option K). answer_by {K = K} (or_else (arc_check sheet.words h d) (refuse_if (not (is_some o)) AbsentArc))) (old.standing h d))
         (memory'.sets ≡ memory.sets) (λ p. (same, p)) r answered
 
-  -- a take into `lent` bytes, where s were asked for
-  module _ (ranking ranking' : Ranking K) (memory memory' : Memory K) (s lent : ℕ) (lends : lent ≡ min s 40) (space space' rest : List ℕ) (long : length space ≡ lent) (long' : length space' ≡ lent) where
-    fits : ranking.sheet.words ≤ s → ranking.sheet.words ≤ length space
-    fits le = let few = ranking.sheet.line.1 in omega arith
+  -- a take into the first `lent` of 40 zeros, where s bytes were asked for
+  module _
+      (ranking ranking' : Ranking K) (memory memory' : Memory K) (s lent : ℕ) (lends : lent ≡ min s 40) (space space' rest : List ℕ) (long : length space ≡ lent) (long' : length space' ≡ lent)
+      (zeros : space ++ rest ≡ replicate 40 0)
+    where
+      abbrev told : Result (Taken K) Refusal → Answer K
+      told (Ok t) = Handed (space' ++ rest) t
+      told (Err e) = Refused e
 
-    front : ranking.sheet.words ≤ s → take ranking.sheet.words (space' ++ rest) ≡ take ranking.sheet.words space'
-    front le = take-append-le ranking.sheet.words space' rest (let few = ranking.sheet.line.1 in omega arith)
+      short : too_short ranking.sheet.words (lengths_of memory) ≡ false → s < ranking.sheet.words → take_check ranking.sheet.words (lengths_of memory) (length space) ranking.taken ≡ Some ShortSpace
+      short enough lt = let l : ltb (length space) ranking.sheet.words ≡ true = lt-ltb _ _ (omega arith) in rw (enough, l) refl
 
-    short : too_short ranking.sheet.words (lengths_of memory) ≡ false → s < ranking.sheet.words → take_check ranking.sheet.words (lengths_of memory) (length space) ranking.taken ≡ Some ShortSpace
-    short enough lt = let l : ltb (length space) ranking.sheet.words ≡ true = lt-ltb _ _ (omega arith) in rw (enough, l) refl
+      beyond : ranking.sheet.words ≤ s → drop ranking.sheet.words space' ≡ drop ranking.sheet.words space → drop ranking.sheet.words (space' ++ rest) ≡ replicate (40 - ranking.sheet.words) 0
+      beyond le same =
+          let few = ranking.sheet.line.1 in
+          drop-append-le ranking.sheet.words space' rest (omega arith)
+          ∙ (ap (λ (xs : List ℕ). xs ++ rest) same ∙ sym (drop-append-le ranking.sheet.words space rest (omega arith)))
+          ∙ (ap (drop ranking.sheet.words) zeros ∙ drop-replicate ranking.sheet.words 40 0)
 
-    pub hand_turn : (t : Taken K) → Took worth ranges ranking ranking' memory memory' space space' (Ok t) → Stepped worth ranges (Ranked ranking) (Ranked ranking') memory memory' (Take s) (Handed (space' ++ rest) t)
-    hand_turn t took = record {
-      words = took.words;
-      ranking = refl;
-      rest = record { weights = ap (drop _) took.weights; sets = ap (drop _) took.sets; others = took.beyond };
-      law = λ arcs ts enough st. by arcs ts enough st (cases_lt s ranking.sheet.words);
-    }
-      where
-        by : (arcs : Arcs K) (ts : List (List ℕ)) → too_short ranking.sheet.words (lengths_of memory) ≡ false → StandsFor worth ranges ranking memory arcs ts → (s < ranking.sheet.words) ⊎ (ranking.sheet.words ≤ s) →
-            Answers worth ranges ranking.sheet.words arcs ts true (Take s) (Handed (space' ++ rest) t) × StandsFor worth ranges ranking' memory' arcs (take ranking.sheet.words (space' ++ rest) ∷ ts)
-        by arcs ts enough st (inl lt) = absurd (let z = (took.refused ShortSpace (short enough lt)).0 in let y : ◌≡◌ {A = ℕ} 0 1 = cc in omega arith)
-        by arcs ts enough st (inr le) =
-            let l = took.law arcs ts st in (
-              (λ e. absurd (let y : ◌≡◌ {A = ℕ} 0 1 = cc in omega arith), λ e. (λ lt. absurd (omega arith), λ _. subst (λ (hs : List ℕ). HandedOut worth ranking.sheet.words arcs ts hs t.weight t.count) (sym (front le)) (l.0 enough (fits le)))),
-              subst (λ (hs : List ℕ). StandsFor worth ranges ranking' memory' arcs (hs ∷ ts)) (sym (front le)) l.1,
-            )
-
-    pub refuse_turn : (e : Refusal) → Took worth ranges ranking ranking' memory memory' space space' (Err e) → Stepped worth ranges (Ranked ranking) (Ranked ranking') memory memory' (Take s) (Refused e)
-    refuse_turn e took = record {
-      words = took.words;
-      ranking = refl;
-      rest = record { weights = ap (drop _) took.weights; sets = ap (drop _) took.sets; others = took.beyond };
-      law = λ arcs ts enough st.
+      by :
+          (arcs : Arcs K) (ts : List (List ℕ)) (r : Result (Taken K) Refusal) → Took worth ranges ranking ranking' memory memory' space space' r → too_short ranking.sheet.words (lengths_of memory) ≡ false → StandsFor worth ranges ranking memory arcs ts →
+          (s < ranking.sheet.words) ⊎ (ranking.sheet.words ≤ s) → TakeAnswers worth ranges ranking.sheet.words arcs ts s (told r) × StandsFor worth ranges ranking' memory' arcs (taken_after ranking.sheet.words (Take s) (told r) ts)
+      by arcs ts (Ok t) took enough st (inl lt) = absurd (let z = (took.refused ShortSpace (short enough lt)).0 in cc)
+      by arcs ts (Ok t) took enough st (inr le) =
+          let few = ranking.sheet.line.1 in
+          let l = took.law arcs ts st in
+          let front = take-append-le ranking.sheet.words space' rest (omega arith) in
+          rw front ((λ lt. absurd (omega arith), λ _. (l.0 enough (omega arith), beyond le took.space_beyond)), l.1)
+      by arcs ts (Err e) took enough st cases =
+          let few = ranking.sheet.line.1 in
           let l = took.law arcs ts st in (
-            (λ q. absurd (let y : ◌≡◌ {A = ℕ} 0 1 = cc in omega arith), λ q. (λ lt. let z = (took.refused ShortSpace (short enough lt)).0 in let y : e ≡ ShortSpace = cc in ap Refused y, λ le. l.0 enough (fits le))),
+            (λ lt. let z = (took.refused ShortSpace (short enough lt)).0 in let y : e ≡ ShortSpace = cc in ap Refused y, λ le. l.0 enough (omega arith)),
             l.1,
-          );
-    }
+          )
+
+      pub take_turn : (r : Result (Taken K) Refusal) → Took worth ranges ranking ranking' memory memory' space space' r → Stepped worth ranges (Ranked ranking) (Ranked ranking') memory memory' (Take s) (told r)
+      take_turn r took = record {
+        words = took.words;
+        ranking = refl;
+        rest = record { weights = ap (drop _) took.weights; sets = ap (drop _) took.sets; others = took.beyond };
+        law = λ arcs ts enough st. let a = by arcs ts r took enough st (cases_lt s ranking.sheet.words) in ((λ q. absurd cc, λ q. a.0), a.1);
+      }

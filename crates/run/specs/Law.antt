@@ -1,6 +1,6 @@
 -- The law over runs. A run is a list of turns, the newest first; a turn is a call with its answer. Which arcs stand and which trees
 -- were taken follow from the turns before, and they settle what a call answers.
-use Rattle.std.specs.Prelude.{◌≡◌, ℕ, ◌<◌, ◌≤◌, Bool, true, false, cond, not, List, [], ◌∷◌, length, take, is_some, Some, None, Option}
+use Rattle.std.specs.Prelude.{◌≡◌, ℕ, ◌-◌, ◌<◌, ◌≤◌, Bool, true, false, cond, not, List, [], ◌∷◌, length, take, drop, replicate, is_some, Some, None, Option}
 use Rattle.cells.specs.Accounts.{Among}
 use Rattle.ranking.specs.Takes.{HandedOut, NoneHanded}
 use Rattle.ranking.specs.Trees.{TreeOf, tree_worth}
@@ -25,16 +25,8 @@ Run K = List (Turn K)
 -- the latest accepted put or strike that names an arc decides it
 abbrev pub arcs_after : {K : Type 0} → Call K → Answer K → Arcs K → Arcs K
 arcs_after (Put h d k) Done arcs = with_arc h d (Some k) arcs
-arcs_after (Put h d k) (Handed heads t) arcs = arcs
-arcs_after (Put h d k) (Refused e) arcs = arcs
-arcs_after (Put h d k) Misplaced arcs = arcs
 arcs_after (Strike h d) Done arcs = with_arc h d None arcs
-arcs_after (Strike h d) (Handed heads t) arcs = arcs
-arcs_after (Strike h d) (Refused e) arcs = arcs
-arcs_after (Strike h d) Misplaced arcs = arcs
-arcs_after Begin a arcs = arcs
-arcs_after (Take s) a arcs = arcs
-arcs_after End a arcs = arcs
+arcs_after _ _ arcs = arcs
 
 -- the arcs that stand after a run on a fresh sheet
 abbrev pub standing : {K : Type 0} → Run K → Arcs K
@@ -44,16 +36,8 @@ standing (t ∷ run) = arcs_after t.call t.answer (standing run)
 -- a begin starts with no tree taken, and an accepted take takes the tree whose heads it hands out
 abbrev pub taken_after : {K : Type 0} → ℕ → Call K → Answer K → List (List ℕ) → List (List ℕ)
 taken_after n Begin Done ts = []
-taken_after n Begin (Handed heads t) ts = ts
-taken_after n Begin (Refused e) ts = ts
-taken_after n Begin Misplaced ts = ts
-taken_after n (Take s) Done ts = ts
 taken_after n (Take s) (Handed heads t) ts = take n heads ∷ ts
-taken_after n (Take s) (Refused e) ts = ts
-taken_after n (Take s) Misplaced ts = ts
-taken_after n (Put h d k) a ts = ts
-taken_after n (Strike h d) a ts = ts
-taken_after n End a ts = ts
+taken_after n _ _ ts = ts
 
 -- the trees handed out since the latest begin, the latest first
 abbrev pub taken : {K : Type 0} → ℕ → Run K → List (List ℕ)
@@ -62,16 +46,8 @@ taken n (t ∷ run) = taken_after n t.call t.answer (taken n run)
 
 abbrev pub ranks_after : {K : Type 0} → Call K → Answer K → Bool → Bool
 ranks_after Begin Done b = true
-ranks_after Begin (Handed heads t) b = b
-ranks_after Begin (Refused e) b = b
-ranks_after Begin Misplaced b = b
 ranks_after End Done b = false
-ranks_after End (Handed heads t) b = b
-ranks_after End (Refused e) b = b
-ranks_after End Misplaced b = b
-ranks_after (Take s) a b = b
-ranks_after (Put h d k) a b = b
-ranks_after (Strike h d) a b = b
+ranks_after _ _ b = b
 
 -- whether a ranking stands after a run
 abbrev pub ranks : {K : Type 0} → Run K → Bool
@@ -93,12 +69,11 @@ module _ {K : Type 0} (worth : K → Worth) (ranges : List Range) (n : ℕ) wher
   abbrev pub strike_answer : Arcs K → ℕ → ℕ → Answer K
   strike_answer arcs h d = answer_by (or_else (arc_check n h d) (refuse_if (not (is_some (arcs h d))) AbsentArc))
 
-  -- what a take answers with space enough
+  -- what a take answers with space enough; behind the heads of the line the bytes are 0
   abbrev pub TakeTells : Arcs K → List (List ℕ) → Answer K → Type 0
-  TakeTells arcs ts (Handed heads t) = HandedOut worth n arcs ts (take n heads) t.weight t.count
+  TakeTells arcs ts (Handed heads t) = HandedOut worth n arcs ts (take n heads) t.weight t.count × (drop n heads ≡ replicate (40 - n) 0)
   TakeTells arcs ts (Refused e) = NoneHanded worth n arcs ts e
-  TakeTells arcs ts Done = ⊥
-  TakeTells arcs ts Misplaced = ⊥
+  TakeTells arcs ts _ = ⊥
 
   -- with less space than a tree needs a take tells only that
   abbrev pub TakeAnswers : Arcs K → List (List ℕ) → ℕ → Answer K → Type 0

@@ -1,5 +1,6 @@
 -- The memory that a run is lent, as lists
-use Rattle.std.specs.Prelude.{◌≡◌, ℕ, List, length}
+use Rattle.std.specs.Prelude.{◌≡◌, ℕ, List}
+use Rattle.ranking.specs.Calls.{lengths_of}
 use Rattle.ranking.specs.Memory.{Memory as Lists}
 use Rattle.run.specs.declared.Memory.{Memory}
 use Rattle.search.specs.declared.family.Node.{Node}
@@ -21,9 +22,4 @@ pub record SameLoans {K : Type 0} (before after : Memory K) : Type 0 where
   pub nodes : after.nodes.ghost_name ≡ before.nodes.ghost_name
   pub merges : after.merges.ghost_name ≡ before.merges.ghost_name
   pub potentials : after.potentials.ghost_name ≡ before.potentials.ghost_name
-  pub weights_long : length after.weights.now ≡ length before.weights.now
-  pub sets_long : length after.sets.now ≡ length before.sets.now
-  pub candidates_long : length after.candidates.now ≡ length before.candidates.now
-  pub nodes_long : length after.nodes.now ≡ length before.nodes.now
-  pub merges_long : length after.merges.now ≡ length before.merges.now
-  pub potentials_long : length after.potentials.now ≡ length before.potentials.now
+  pub long : lengths_of (lists_of after) ≡ lengths_of (lists_of before)

@@ -46,7 +46,7 @@ pub enum Call<K> {
 pub enum Answer<K> {
     // a put, strike, begin or end was done
     Done,
-    // a take handed out a tree: its heads (of at most forty words), its weight and its number
+    // a take handed out a tree: its heads with zeros behind them, its weight and its number
     Handed([u8; 40], Taken<K>),
     // the call was refused
     Refused(Refusal),

@@ -27,12 +27,7 @@ loop-i-init g c =
         nodes = refl;
         merges = refl;
         potentials = refl;
-        weights_long = ap length c.opened.ensures.weights;
-        sets_long = c.opened.auto.sets;
-        candidates_long = ap length c.opened.ensures.candidates;
-        nodes_long = ap length c.opened.ensures.nodes;
-        merges_long = ap length c.opened.ensures.merges;
-        potentials_long = ap length c.opened.ensures.potentials;
+        long = rw (c.opened.ensures.weights, c.opened.auto.sets, c.opened.ensures.candidates, c.opened.ensures.nodes, c.opened.ensures.merges, c.opened.ensures.potentials) refl;
       };
     }
 
