@@ -8,3 +8,6 @@ mod texts;
 pub use numbering::{list, lists};
 pub use plain::Plain;
 pub use texts::shows;
+
+#[cfg(test)]
+mod tests;

@@ -3,9 +3,9 @@ use Rattle.std.proofs.Common.{◌≡◌, ℕ, zero, suc, ◌+◌, ◌<◌, ◌�
 use Rattle.std.specs.List.{common_prefix_len}
 use Rattle.std.proofs.lemmas.List.{ext_get_or}
 use Rattle.std.proofs.lemmas.Bool.{cases_eq, cases_lt, cases_order, eqb-true, eqb-false, eq-eqb, ne_eqb, le-leb, leb-true, and_parts, not-true, not_from_false, or_parts, or_from, and_left, and_right, and_from}
-use Rattle.std.proofs.lemmas.Bool.Decides.{nat_tests}
+use Rattle.std.proofs.lemmas.Bool.Decides.{nat_tests, Decides-and}
 use Rattle.tree.specs.Chains.{head_of}
-use Rattle.cells.specs.Cells.{InCell, bans_at, InSubCell, FirstApart, Parts, apart_at, in_cell, pending}
+use Rattle.cells.specs.Cells.{InCell, bans_at, InSubCell, FirstApart, Parts, Tested, apart_at, in_cell, pending}
 
 -- ---- the first place where two lists differ
 alike_same : (xs ys : List ℕ) (i : ℕ) → i < common_prefix_len eqb xs ys → get_or xs i 0 ≡ get_or ys i 0
@@ -50,6 +50,22 @@ module _ (n : ℕ) (heads t : List ℕ) (sized : length heads ≡ n) (sized-t : 
         record { before = λ w l. same_before w (omega arith); free = not-true (banned (head_of t from)) a.1 },
     λ c. and_from (leb from (apart_at t heads)) (not (banned (head_of t from))) (le-leb from (apart_at t heads) (apart_from from le c.before)) (not_from_false (banned (head_of t from)) c.free),
   )
+
+pub tested : Tested
+tested n heads t from p banned sized sized-t low high = (lies, Decides-and (in_cell heads from banned t) (leb p (apart_at t heads) && leb (apart_at t heads) n) lies (Decides-and (leb p (apart_at t heads)) (leb (apart_at t heads) n) agree differ))
+  where
+    lies : Decides (in_cell heads from banned t) (InCell heads from banned t)
+    lies = in_cell_decides n heads t sized sized-t from banned low
+
+    agree : Decides (leb p (apart_at t heads)) ((w : ℕ) → w < p → head_of t w ≡ head_of heads w)
+    agree = (λ e w l. same_before n heads t sized sized-t w (omega (arith, leb-true p (apart_at t heads) e)), λ h. le-leb p (apart_at t heads) (apart_from n heads t sized sized-t p high h))
+
+    differ : Decides (leb (apart_at t heads) n) (t ≡ heads → ⊥)
+    differ = (λ e q. omega (arith, leb-true (apart_at t heads) n e, apart_all n heads t sized sized-t q), λ h. le-leb (apart_at t heads) n (by h (cases_lt n (apart_at t heads))))
+      where
+        by : (t ≡ heads → ⊥) → (n < apart_at t heads) ⊎ (apart_at t heads ≤ n) → apart_at t heads ≤ n
+        by h (inl l) = absurd (h (same_all n heads t sized sized-t l))
+        by h (inr l) = l
 
 pub parts : Parts
 parts n heads from banned sized word free = record {

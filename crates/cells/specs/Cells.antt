@@ -1,6 +1,7 @@
 -- Cells of trees. A tree is its list of heads, one for each word. A cell is given by heads, a word `from` and a test of banned heads:
 -- it has the trees with these heads at the words before `from`, and at `from` a head that is not banned.
-use Rattle.std.specs.Prelude.{◌≡◌, ℕ, ◌<◌, ◌≤◌, Bool, false, not, ◌&&◌, ◌||◌, List, ◌∷◌, length, ◌==◌, ◌≢◌, nat_le}
+use Rattle.std.specs.Prelude.{◌≡◌, ℕ, suc, ◌<◌, ◌≤◌, Bool, false, not, ◌&&◌, ◌||◌, List, ◌∷◌, length, ◌==◌, ◌≢◌, nat_le}
+use Rattle.std.specs.Bool.{Decides}
 use Rattle.std.specs.List.{common_prefix_len}
 use Rattle.tree.specs.Chains.{Word, head_of}
 
@@ -48,3 +49,10 @@ in_cell heads from banned t = nat_le from (apart_at t heads) && not (banned (hea
 -- t is another list of the cell than `heads`, and differs first at p or after
 abbrev pub pending : ℕ → List ℕ → ℕ → (ℕ → Bool) → ℕ → List ℕ → Bool
 pending n heads from banned p t = in_cell heads from banned t && (nat_le p (apart_at t heads) && nat_le (apart_at t heads) n)
+
+-- which the tests decide, for two lists of n heads
+abbrev pub Tested : Type 0
+Tested =
+    (n : ℕ) (heads t : List ℕ) (from p : ℕ) (banned : ℕ → Bool) → length heads ≡ n → length t ≡ n → from ≤ suc n → p ≤ suc n →
+    Decides (in_cell heads from banned t) (InCell heads from banned t)
+    × Decides (pending n heads from banned p t) (InCell heads from banned t × (((w : ℕ) → w < p → head_of t w ≡ head_of heads w) × (t ≢ heads)))

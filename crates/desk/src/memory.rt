@@ -172,21 +172,6 @@ impl<K: Opens + Copy> Memory<K> {
             words, calls, weights, sets, candidates, nodes, merges, potentials, turns,
         )
     }
-
-    // Fills the working space with another weight. (`fill` asks for a clone that cannot fail, of which nothing is known here.)
-    pub fn litter(&mut self, weight: K)
-        ensures { parts_of self.new ≡ record (parts_of self.old) { nodes = self.new.nodes.items; merges = self.new.merges.items; potentials = self.new.potentials.items } }
-    {
-        for node in self.nodes.iter_mut() {
-            *node = Node::new(weight);
-        }
-        for merge in self.merges.iter_mut() {
-            *merge = Node::new(weight);
-        }
-        for potential in self.potentials.iter_mut() {
-            *potential = Root::new(0, weight);
-        }
-    }
 }
 
 impl<K: Recorded + Copy> Memory<K> {

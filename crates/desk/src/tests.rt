@@ -9,7 +9,6 @@ fn memory_for_forty_words(rt: HostRuntime) -> Result<(), Fail> {
     let sheet = memory.open(40)?;
     memory.put(&sheet, 0, 1, Score::new(5))?;
     memory.strike(&sheet, 0, 1)?;
-    memory.litter(Score::new(7));
     assert_eq!(rt; memory.search(40, &[], &mut [0; 40])?, None);
     assert_eq!(rt; memory.search_barring(40, &[], 1, &mut [0; 40])?, None);
     let mut ranking = ranking::begin(sheet);

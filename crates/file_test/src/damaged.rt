@@ -44,30 +44,61 @@ fn reader_agrees(heap: Global, file: &[u8]) -> Result<bool, AllocError> {
     }
 }
 
-// Two words and four arcs.
-const GOOD: [u8; 29] = [
-    1, 0, 26, 1, 2, 0, 1, 0, 0, 0, 10, 0, 2, 0, 0, 0, 8, 1, 2, 0, 0, 0, 3, 2, 1, 0, 0, 0, 4,
+// A file of each kind, with the greatest and the least entries.
+const SCORES: [u8; 29] = [
+    1, 0, 26, 1, 2, 0, 1, 0, 15, 66, 64, 0, 2, 0, 0, 0, 8, 1, 2, 255, 240, 189, 192, 2, 1, 0, 0, 0,
+    4,
 ];
+
+const COST: [u8; 11] = [1, 0, 8, 2, 3, 2, 3, 0, 15, 66, 64];
+
+const MARK: [u8; 12] = [1, 0, 9, 3, 2, 0, 1, 9, 255, 240, 189, 192];
 
 #[test]
 fn every_front_of_a_file(rt: HostRuntime) -> Result<(), Fail> {
     for long in 0..30 {
-        assert!(rt; agrees::<Score>(rt.alloc(), GOOD.get(..long).unwrap_or(&[]))?);
+        assert!(rt; agrees::<Score>(rt.alloc(), SCORES.get(..long).unwrap_or(&[]))?);
     }
-    assert!(rt; !agrees::<Cost>(rt.alloc(), &GOOD)?);
+    assert!(rt; !agrees::<Cost>(rt.alloc(), &SCORES)?);
     Ok(())
+}
+
+// Whether the reader agrees on a file with each of its bytes changed to every value.
+fn changes_agree(heap: Global, good: &[u8]) -> Result<bool, AllocError> {
+    let mut file = Vec::from_slice(heap, good)?;
+    for (place, was) in good.iter().enumerate() {
+        for value in 0..=255 {
+            file.as_mut_slice().get_mut(place).map(|byte| *byte = value);
+            if !reader_agrees(heap, file.as_slice())? {
+                return Ok(false);
+            }
+        }
+        file.as_mut_slice().get_mut(place).map(|byte| *byte = *was);
+    }
+    Ok(true)
 }
 
 #[test]
 fn every_byte_changed_to_every_value(rt: HostRuntime) -> Result<(), Fail> {
-    for place in 0..29 {
-        for value in 0..=255 {
-            let mut file = GOOD;
-            file[place] = value;
-            assert!(rt; reader_agrees(rt.alloc(), &file)?);
-        }
-    }
+    assert!(rt; changes_agree(rt.alloc(), &SCORES)?);
     Ok(())
+}
+
+#[test]
+fn every_byte_of_other_kinds(rt: HostRuntime) -> Result<(), Fail> {
+    assert!(rt; changes_agree(rt.alloc(), &COST)?);
+    assert!(rt; changes_agree(rt.alloc(), &MARK)?);
+    Ok(())
+}
+
+// What is compared: the arcs that stand, and the sets beyond the line.
+#[test]
+fn other_sets_are_told(rt: HostRuntime) {
+    assert!(rt; stand_as_named(&SCORES, &[5, 3], &[u64::MAX]));
+    assert!(rt; !stand_as_named(&SCORES, &[5, 2], &[u64::MAX]));
+    assert!(rt; !stand_as_named(&SCORES, &[5, 3], &[0]));
+    assert!(rt; !none_stands(&[0, 1], &[u64::MAX]));
+    assert!(rt; !none_stands(&[0, 0], &[0]));
 }
 
 // The number and place of the fault that the reader of scores tells of a file, with a memory for so many words.
@@ -102,8 +133,8 @@ fn known_faults(rt: HostRuntime) -> Result<(), Fail> {
     assert_eq!(rt; told(heap, &[1, 0, 2, 4, 1], 40)?, Err((13, 3)));
     assert_eq!(rt; told(heap, &[1, 0, 2, 1, 41], 40)?, Err((1, 4)));
     assert_eq!(rt; told(heap, &[1, 0, 3, 1, 1, 0], 40)?, Err((12, 1)));
-    assert_eq!(rt; told(heap, &GOOD, 1)?, Err((2, 0)));
-    assert_eq!(rt; told(heap, &GOOD, 2)?, Ok(()));
+    assert_eq!(rt; told(heap, &SCORES, 1)?, Err((2, 0)));
+    assert_eq!(rt; told(heap, &SCORES, 2)?, Ok(()));
     assert_eq!(rt;
         told(heap, &[1, 0, 8, 1, 1, 0, 0, 0, 0, 0, 1], 40)?,
         Err((3, 6))
@@ -141,9 +172,13 @@ fn the_largest_file(rt: HostRuntime) -> Result<(), Fail> {
     let heap = rt.alloc();
     let mut file = largest(heap)?;
     assert_eq!(rt; file.len(), 11205);
+    assert_eq!(rt; check(file.as_slice()), Ok(()));
     assert!(rt; agrees::<Mark<Score>>(heap, file.as_slice())?);
     assert!(rt; agrees::<Mark<Score>>(heap, file.get(..11204).unwrap_or(&[]))?);
     file.push(0)?;
+    assert!(rt; agrees::<Mark<Score>>(heap, file.as_slice())?);
+    // the length told rightly, and too great
+    file.as_mut_slice().get_mut(2).map(|low| *low = 195);
     assert!(rt; agrees::<Mark<Score>>(heap, file.as_slice())?);
     Ok(())
 }

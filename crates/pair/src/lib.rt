@@ -137,6 +137,14 @@ mod tests {
 
     #[test]
     fn the_widest_sum_stops_at_the_end(rt: HostRuntime) {
+        let mut widest = Mark::new(1, Pair::new(1, -1));
+        for _ in 0..63 {
+            widest = widest.sum(&widest);
+        }
+        assert_eq!(rt; widest.sum(&widest), widest);
+        let none = widest.difference(&widest);
+        let end = none.difference(&widest).difference(&widest);
+        assert_eq!(rt; end.difference(&widest), end);
         let most = Score::new(i64::MAX);
         let least = Score::new(i64::MIN);
         assert_eq!(rt; most.sum(&most), most);

@@ -8,15 +8,24 @@ use Rattle.weight.specs.Numbers.{Score, score_worth}
 use Rattle.std.specs.Borrow.{Bor}
 use Rattle.std.specs.Int.{w64}
 
+-- the word is a number that fits
+abbrev pub Readable : Option (Bor (List ℕ)) → Type 0
+Readable None = ⊥
+Readable (Some word) = IsNumeral 10 (without_leading_plus word.now) × (digits_value 10 (without_leading_plus word.now) < 2 ^ 64)
+
+abbrev pub ReadableScore : Option (Bor (List ℕ)) → Type 0
+ReadableScore None = ⊥
+ReadableScore (Some word) = IsNumeral 10 (without_leading_sign word.now) × FitsSigned w64 (signed_digits_value 10 word.now)
+
 -- the word is the number in decimal
 abbrev pub Numbers : Option (Bor (List ℕ)) → ℕ → Type 0
 Numbers None n = ⊥
-Numbers (Some word) n = n ≡ digits_value 10 (without_leading_plus word.now)
+Numbers (Some word) n = Readable (Some word) × (n ≡ digits_value 10 (without_leading_plus word.now))
 
 -- the word is the score in decimal
 abbrev pub Scores : Option (Bor (List ℕ)) → Score → Type 0
 Scores None score = ⊥
-Scores (Some word) score = score_worth score ≡ signed_digits_value 10 word.now ∷ []
+Scores (Some word) score = ReadableScore (Some word) × (score_worth score ≡ signed_digits_value 10 word.now ∷ [])
 
 -- no word stands there
 abbrev pub Nothing : Option (Bor (List ℕ)) → Type 0
@@ -32,15 +41,6 @@ Says name first second third (Call Begin) = (name ≡ codes "begin") × Nothing 
 Says name None second third (Call (Take room)) = (name ≡ codes "take") × (room ≡ 40) × Nothing second × Nothing third
 Says name (Some word) second third (Call (Take room)) = (name ≡ codes "take") × Numbers (Some word) room × Nothing second × Nothing third
 Says name first second third (Call End) = (name ≡ codes "end") × Nothing first × Nothing second × Nothing third
-
--- the word is a number that fits
-abbrev pub Readable : Option (Bor (List ℕ)) → Type 0
-Readable None = ⊥
-Readable (Some word) = IsNumeral 10 (without_leading_plus word.now) × (digits_value 10 (without_leading_plus word.now) < 2 ^ 64)
-
-abbrev pub ReadableScore : Option (Bor (List ℕ)) → Type 0
-ReadableScore None = ⊥
-ReadableScore (Some word) = IsNumeral 10 (without_leading_sign word.now) × FitsSigned w64 (signed_digits_value 10 word.now)
 
 -- the name and the words behind it are no order
 pub record SaysNone (name : List ℕ) (first second third : Option (Bor (List ℕ))) : Type 0 where

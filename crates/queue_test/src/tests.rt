@@ -5,10 +5,12 @@ use std::test::Fail;
 
 const ROOM: usize = 64;
 
-const NONE: Candidate = Candidate {
-    heads: [0; 4],
-    weight: 0,
-};
+fn candidate(head: u8, weight: u32) -> Candidate {
+    Candidate {
+        heads: [head; 4],
+        weight,
+    }
+}
 
 // A run: of sixteen steps about so many push, so many push and drop the least, and the others pop.
 #[derive(Drop)]
@@ -22,6 +24,17 @@ struct Run {
     spread: u32,
 }
 
+fn row(seed: u32, room: usize, steps: u32, pushes: u32, drops: u32, spread: u32) -> Run {
+    Run {
+        seed,
+        room,
+        steps,
+        pushes,
+        drops,
+        spread,
+    }
+}
+
 // The waiting list, and beside it the candidates that wait in it, heaviest first.
 #[derive(Drop)]
 struct Both {
@@ -32,7 +45,7 @@ struct Both {
 impl Both {
     fn new(alloc: Global) -> Result<Both, AllocError> {
         Ok(Both {
-            slots: vec![in alloc; NONE; ROOM]?,
+            slots: vec![in alloc; candidate(0, 0); ROOM]?,
             sorted: Vec::new(alloc),
         })
     }
@@ -125,81 +138,33 @@ fn agrees(alloc: Global, run: &Run) -> Result<bool, AllocError> {
 #[test]
 fn runs_agree_with_a_sorted_list(rt: HostRuntime) -> Result<(), Fail> {
     let table = [
-        Run {
-            seed: 1,
-            room: 1,
-            steps: 2000,
-            pushes: 7,
-            drops: 2,
-            spread: 0,
-        },
-        Run {
-            seed: 2,
-            room: 2,
-            steps: 2000,
-            pushes: 7,
-            drops: 3,
-            spread: 5,
-        },
-        Run {
-            seed: 3,
-            room: 7,
-            steps: 9000,
-            pushes: 7,
-            drops: 3,
-            spread: 100,
-        },
-        Run {
-            seed: 4,
-            room: 31,
-            steps: 20000,
-            pushes: 8,
-            drops: 3,
-            spread: 3,
-        },
-        Run {
-            seed: 5,
-            room: 50,
-            steps: 20000,
-            pushes: 8,
-            drops: 6,
-            spread: 0,
-        },
-        Run {
-            seed: 6,
-            room: 50,
-            steps: 20000,
-            pushes: 10,
-            drops: 0,
-            spread: 1,
-        },
-        Run {
-            seed: 7,
-            room: 64,
-            steps: 40000,
-            pushes: 7,
-            drops: 1,
-            spread: 0,
-        },
-        Run {
-            seed: 8,
-            room: 64,
-            steps: 40000,
-            pushes: 9,
-            drops: 1,
-            spread: 1000,
-        },
-        Run {
-            seed: 9,
-            room: 0,
-            steps: 100,
-            pushes: 5,
-            drops: 5,
-            spread: 0,
-        },
+        // seed, room, steps, pushes, drops, spread
+        row(1, 1, 2000, 7, 2, 0),
+        row(2, 2, 2000, 7, 3, 5),
+        row(3, 7, 9000, 7, 3, 100),
+        row(4, 31, 20000, 8, 3, 3),
+        row(5, 50, 20000, 8, 6, 0),
+        row(6, 50, 20000, 10, 0, 1),
+        row(7, 64, 40000, 7, 1, 0),
+        row(8, 64, 40000, 9, 1, 1000),
+        row(9, 0, 100, 5, 5, 0),
     ];
     for run in &table {
         assert!(rt; agrees(rt.alloc(), run)?);
     }
+    Ok(())
+}
+
+#[test]
+fn a_wrong_answer_is_told(rt: HostRuntime) -> Result<(), Fail> {
+    let light = candidate(1, 1);
+    let heavy = candidate(2, 2);
+    let mut both = Both::new(rt.alloc())?;
+    both.add(light)?;
+    both.add(heavy)?;
+    // not the heaviest, and none that waits
+    assert!(rt; !both.remove(light, 0));
+    assert!(rt; !both.remove(candidate(3, 2), 0));
+    assert!(rt; both.remove(heavy, 0));
     Ok(())
 }

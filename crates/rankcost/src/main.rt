@@ -22,22 +22,27 @@ fn draw(random: &mut Random, memory: &mut Memory<Score>) -> Result<Sheet<Score>,
     Ok(sheet)
 }
 
-// Takes trees of one line; returns how many it got.
-fn rank(takes: u8, sheet: Sheet<Score>, memory: &mut Memory<Score>) -> usize {
+// Takes trees of one line; returns how many it got, and leaves the heads of the last.
+fn rank(takes: u8, sheet: Sheet<Score>, memory: &mut Memory<Score>, heads: &mut [u8; 40]) -> usize {
     let mut ranking = begin(sheet);
-    let taken = (0..takes).filter(|_| memory.take(&mut ranking, &mut [0; 40]).is_ok());
+    let taken = (0..takes).filter(|_| memory.take(&mut ranking, heads).is_ok());
     taken.count()
 }
 
-// Draws and ranks so many lines; returns how many trees it got.
-fn rank_lines(lines: u8, takes: u8, memory: &mut Memory<Score>) -> Result<usize, Refusal> {
+// Draws and ranks so many lines; returns how many trees it got, and a number that the last tree of each line changes.
+fn rank_lines(lines: u8, takes: u8, memory: &mut Memory<Score>) -> Result<(usize, u64), Refusal> {
     let mut random = Random { seed: 12345 };
     let mut got: usize = 0;
+    let mut mark: u64 = 0;
     for _ in 0..lines {
         let sheet = draw(&mut random, memory)?;
-        got = got.saturating_add(rank(takes, sheet, memory));
+        let mut heads = [0; 40];
+        got = got.saturating_add(rank(takes, sheet, memory, &mut heads));
+        for head in heads {
+            mark = mark.wrapping_mul(41).wrapping_add(u64::from(head));
+        }
     }
-    Ok(got)
+    Ok((got, mark))
 }
 
 // The first two numbers of the input.
@@ -58,8 +63,8 @@ fn main(rt: HostRuntime) -> io::Result<()> {
     let (lines, takes) = ask(&rt)?;
     let mut memory = Memory::new(rt.alloc())?;
     match rank_lines(lines, takes, &mut memory) {
-        Ok(got) => println!(rt;
-            "ranked {lines} lines of 40 words, {takes} takes each: {got} trees"
+        Ok((got, mark)) => println!(rt;
+            "ranked {lines} lines of 40 words, {takes} takes each: {got} trees, with mark {mark}"
         ),
         Err(why) => println!(rt; "{why}"),
     }

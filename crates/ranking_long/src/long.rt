@@ -3,11 +3,12 @@ use bench::Plain;
 use desk::{Memory, Random};
 use ranking::Ranking;
 use refusal::Refusal;
+use search::Node;
 use sheet::Sheet;
 use std::alloc::Global;
 use std::process::Abort;
 use std::test::Fail;
-use weight::{Kind, Score};
+use weight::{Kind, Root, Score};
 
 // A tree that was handed out: its heads and its weight.
 #[derive(Clone, Copy)]
@@ -63,7 +64,10 @@ fn take_fifty(
     let mut trees = Vec::new(heap);
     for count in 1..51 {
         if litter {
-            memory.litter(Score::new(i64::from(random.below(200)) * 1000 - 100_000));
+            let weight = Score::new(i64::from(random.below(200)) * 1000 - 100_000);
+            memory.nodes.fill(Node::new(weight));
+            memory.merges.fill(Node::new(weight));
+            memory.potentials.fill(Root::new(0, weight));
         }
         let mut heads = [0; 40];
         let taken = memory.take(ranking, &mut heads)?;
