@@ -14,13 +14,13 @@ fn below(random: &mut Random, most: u8) -> u8 {
     drawn.checked_rem(most).unwrap_or(0)
 }
 
-// The search tells the enumeration's answer, by a tree that has it.
+// The search tells the enumeration's answer, by a tree that has it. Returns 1 where there is one: each test tells how many it met.
 fn agrees<K: Kind + Copy + PartialEq + Debug>(
     rt: &impl Abort,
     line: &mut Line<K>,
     held: &[u8],
     barred: u64,
-) -> Result<(), Fail> {
+) -> Result<usize, Fail> {
     let wanted = line.greatest(held, barred);
     let mut heads = [77; 6];
     let before = line.sets.clone()?;
@@ -36,7 +36,7 @@ fn agrees<K: Kind + Copy + PartialEq + Debug>(
     } else {
         assert!(rt; list.iter().all(|head| *head == 77));
     }
-    Ok(())
+    Ok(usize::from(wanted.is_some()))
 }
 
 // Draws the arcs of a line: how many of six stand, with weights between -2 and 2, so that many are equal.
@@ -50,37 +50,42 @@ fn draw(line: &mut Line<Score>, random: &mut Random, dense: u8) {
 #[test]
 fn scores_as_enumerated(rt: HostRuntime) -> Result<(), Fail> {
     let mut random = Random { seed: 1 };
+    let mut trees: usize = 0;
     for words in 1..6 {
         for round in 0..36 {
             let mut line = Line::new(rt.alloc(), words, 5)?;
             draw(&mut line, &mut random, 1 + round % 6);
-            agrees(&rt, &mut line, &[], 0)?;
+            trees = trees.wrapping_add(agrees(&rt, &mut line, &[], 0)?);
         }
     }
+    assert_eq!(rt; trees, 110);
     Ok(())
 }
 
 #[test]
 fn costs_and_no_arcs_as_enumerated(rt: HostRuntime) -> Result<(), Fail> {
     let mut random = Random { seed: 2 };
+    let mut trees: usize = 0;
     for words in 1..5 {
         let mut none: Line<Cost> = Line::new(rt.alloc(), words, 5)?;
-        agrees(&rt, &mut none, &[], 0)?;
+        trees = trees.wrapping_add(agrees(&rt, &mut none, &[], 0)?);
         for _ in 0..20 {
             let mut line = Line::new(rt.alloc(), words, 5)?;
             line.draw(|| {
                 let stands = below(&mut random, 4) > 0;
                 stands.then(|| Cost::new(u32::from(below(&mut random, 3))))
             });
-            agrees(&rt, &mut line, &[], 0)?;
+            trees = trees.wrapping_add(agrees(&rt, &mut line, &[], 0)?);
         }
     }
+    assert_eq!(rt; trees, 70);
     Ok(())
 }
 
 #[test]
 fn marks_as_enumerated(rt: HostRuntime) -> Result<(), Fail> {
     let mut random = Random { seed: 3 };
+    let mut trees: usize = 0;
     for words in 1..5 {
         for _ in 0..20 {
             let mut line = Line::new(rt.alloc(), words, 5)?;
@@ -92,15 +97,17 @@ fn marks_as_enumerated(rt: HostRuntime) -> Result<(), Fail> {
                 let score = i64::from(below(&mut random, 200)) * 10 - 1000;
                 Some(Mark::new(mark, Score::new(score)))
             });
-            agrees(&rt, &mut line, &[], 0)?;
+            trees = trees.wrapping_add(agrees(&rt, &mut line, &[], 0)?);
         }
     }
+    assert_eq!(rt; trees, 75);
     Ok(())
 }
 
 #[test]
 fn held_and_barred_as_enumerated(rt: HostRuntime) -> Result<(), Fail> {
     let mut random = Random { seed: 4 };
+    let mut trees: usize = 0;
     for _ in 0..120 {
         let mut line = Line::new(rt.alloc(), 4, 5)?;
         draw(&mut line, &mut random, 5);
@@ -111,7 +118,13 @@ fn held_and_barred_as_enumerated(rt: HostRuntime) -> Result<(), Fail> {
         ];
         let many = usize::from(below(&mut random, 4));
         let barred = u64::from(below(&mut random, 32));
-        agrees(&rt, &mut line, held.get(..many).unwrap_or(&[]), barred)?;
+        trees = trees.wrapping_add(agrees(
+            &rt,
+            &mut line,
+            held.get(..many).unwrap_or(&[]),
+            barred,
+        )?);
     }
+    assert_eq!(rt; trees, 44);
     Ok(())
 }

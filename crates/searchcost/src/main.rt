@@ -15,17 +15,17 @@ fn draw(random: &mut Random, weights: &mut [Score]) {
     }
 }
 
-// Whether a search of the whole line finds a tree.
-fn finds(memory: &mut Memory<Score>) -> bool {
-    matches!(memory.search(40, &[], &mut [0; 40]), Ok(Some(_)))
+// Whether a search of the whole line finds a tree, whose heads it then writes.
+fn finds(memory: &mut Memory<Score>, heads: &mut [u8]) -> bool {
+    matches!(memory.search(40, &[], heads), Ok(Some(_)))
 }
 
-// Draws the lines and searches the first of them; returns how many trees were found.
-fn run(searches: u8, memory: &mut Memory<Score>) -> usize {
+// Draws the lines and searches the first of them; returns how many trees were found, and leaves the heads of the last.
+fn run(searches: u8, memory: &mut Memory<Score>, heads: &mut [u8]) -> usize {
     let mut random = Random { seed: 12345 };
     let found = (0..200).filter(|line| {
         draw(&mut random, memory.weights.as_mut_slice());
-        *line < searches && finds(memory)
+        *line < searches && finds(memory, heads)
     });
     found.count()
 }
@@ -48,6 +48,7 @@ fn main(rt: HostRuntime) -> io::Result<()> {
     let searches = ask(&rt)?;
     let mut memory = Memory::new(rt.alloc())?;
     memory.sets.fill(0x1ff_ffff_ffff);
-    let found = run(searches, &mut memory);
-    println!(rt; "searched {searches} lines of 40 words, found {found} trees")
+    let mut heads = [0; 40];
+    let found = run(searches, &mut memory, &mut heads);
+    println!(rt; "searched {searches} lines of 40 words, found {found} trees, the last with the heads {heads:?}")
 }
