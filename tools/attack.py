@@ -49,6 +49,8 @@ def function_at(crate, place, number):
     if not os.path.exists(path):
         return place
     lines = open(path).read().split('\n')
+    while lines[number - 1].startswith('#['):
+        number += 1
     for line in reversed(lines[:number]):
         found = re.search(r'\bfn (\w+)', line)
         if found:
@@ -58,7 +60,7 @@ def function_at(crate, place, number):
 
 def refused_by(crate, note):
     """The function and clause that the prover's first error names."""
-    found = re.search(r'((?:src|proofs|specs)/[\w/]+\.(?:rt|antt)):(\d+):\d+: (.*)', note)
+    found = re.search(r'((?:src|proofs|specs)/[\w/+]+\.(?:rt|antt)):(\d+):\d+: (.*)', note)
     if not found:
         return note.strip()
     place, number, why = found.groups()
@@ -111,14 +113,17 @@ def run_with(crate, bug):
     try:
         open(path, 'w').write(text)
         if '#[test]' in before or any('#[test]' in open(p).read() for p in glob.glob(f'{folder}/src/*.rt')):
-            ran = subprocess.run(['rt', 'try', '--test'], cwd=folder, capture_output=True, text=True)
-            if ran.returncode:
-                said = re.findall(r'test (\w+) \.\.\. FAILED|(\w+) FAILED|test (\S+)[^\n]*fail', ran.stdout + ran.stderr)
-                names = [next(n for n in found if n) for found in said]
-                return 'test ' + (', '.join(dict.fromkeys(names)) or (ran.stdout + ran.stderr).strip().split('\n')[-1])
+            ran = subprocess.run(['rt', 'try', '--test', *LIMITS], cwd=folder, capture_output=True, text=True)
+            failed = re.findall(r'test (\S+) \.\.\. FAILED', ran.stdout)
+            if failed:
+                return 'test ' + ', '.join(name.split('::')[-1] for name in failed)
+            if 'test result: ok' not in ran.stdout:
+                return 'NOT TRIED: ' + (ran.stdout + ran.stderr).strip().split('\n')[-1]
         if os.path.exists(f'{folder}/stdin'):
             given = open(f'{folder}/stdin', 'rb').read()
-            ran = subprocess.run(['rt', 'try'], cwd=folder, input=given, capture_output=True)
+            ran = subprocess.run(['rt', 'try', *LIMITS], cwd=folder, input=given, capture_output=True)
+            if b'run=ended' not in ran.stdout + ran.stderr:
+                return 'NOT TRIED: ' + (ran.stdout + ran.stderr).decode(errors='replace').strip().split('\n')[-1]
             want = open(f'{folder}/stdout', 'rb').read() if os.path.exists(f'{folder}/stdout') else b''
             if ran.stdout != want:
                 return 'the stored output'
@@ -147,10 +152,14 @@ def attack(crate):
         rest = [line for line in bug if not line.startswith('by: ')]
         at = next((j for j, line in enumerate(rest) if re.match(r'kept: |mended: ', line)), len(rest))
         out.append('\n'.join(rest[:at] + ['by: ' + by] + rest[at:]))
-    open(path, 'w').write('\n\n'.join(out) + '\n')
+        left = ['\n'.join(bug) for bug in bugs[i + 1:]]
+        open(path, 'w').write('\n\n'.join(out + left) + '\n')
     if any(note is None for note in map(said.get, range(len(bugs)))):
         print(log[-2000:])
 
+
+# How far a run goes that shows what a bug does.
+LIMITS = ['--steps', '2000000000', '--seconds', '100']
 
 # Simple bugs: a pattern in a line of code, and what takes its place.
 SWAPS = [(r' < ', ' <= '), (r' <= ', ' < '), (r' > ', ' >= '), (r' >= ', ' > '), (r' == ', ' != '), (r' != ', ' == '), (r' && ', ' || '), (r' \|\| ', ' && '),
@@ -163,6 +172,8 @@ def simple_bugs(crate):
     """The simple bugs of a crate: each a file, a line that stands once in it, and what to put in its place."""
     bugs = []
     for path in sorted(glob.glob(f'crates/{crate}/src/**/*.rt', recursive=True)):
+        if path.endswith('/tests.rt'):
+            continue
         text = open(path).read().split('#[cfg(test)]')[0]
         lines = text.split('\n')
         for line in lines:

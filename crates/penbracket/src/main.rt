@@ -5,11 +5,12 @@ ghost use Rattle.penbracket.specs.Drawing.{Told};
 ghost use Rattle.penbracket.specs.declared.Fault.TheVariants.{Memory};
 ghost use Rattle.std.specs.Prelude.{◌≡◌};
 
+use console::{ended, lines_of, refuse_arguments};
 use reading::read_spaced;
 use refusal::Refusal;
 use std::alloc::{AllocError, Global};
 use std::io;
-use std::io::{BufRead, BufReader};
+use std::io::BufReader;
 use tree::{check_heads, find_cycle, write_brackets};
 
 // A tree that was drawn: its heads, the word on the root, and its brackets.
@@ -104,10 +105,15 @@ fn print_text(rt: &HostRuntime, name: &str, bytes: &[u8]) -> io::Result<()> {
     println!(rt; "{name}: {text}")
 }
 
-fn main(rt: HostRuntime) -> io::Result<()> {
-    for line in BufReader::new(rt.alloc(), rt.stdin())?.split(rt.alloc(), b'\n') {
-        let line = line?;
-        print_steps(&rt, line.as_slice())?;
+// Draws each line of the input.
+fn draw_lines(rt: &HostRuntime) -> io::Result<()> {
+    refuse_arguments(rt, "penbracket < LINES")?;
+    for line in lines_of(rt.alloc(), BufReader::new(rt.alloc(), rt.stdin())?) {
+        print_steps(rt, line?.as_slice())?;
     }
     Ok(())
+}
+
+fn main(rt: HostRuntime) -> io::Result<()> {
+    ended(&rt, draw_lines(&rt))
 }

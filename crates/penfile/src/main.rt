@@ -2,6 +2,7 @@
 // stand in the end; or the refusal with its number and byte place.
 #![tactic(auto)]
 
+use console::{ended, refuse_arguments};
 use desk::Memory;
 use file::{FileFault, FileKind, Recorded, kind_of};
 use lines::refused_line;
@@ -77,20 +78,26 @@ fn show<K: Recorded + Copy>(rt: &HostRuntime, file: &[u8]) -> io::Result<()> {
     }
 }
 
-fn main(rt: HostRuntime) -> io::Result<()> {
+// Shows the file on standard input, of which one byte more is read than the longest file has.
+fn show_input(rt: &HostRuntime) -> io::Result<()> {
+    refuse_arguments(rt, "penfile < FILE")?;
     let mut bytes = Vec::new(rt.alloc());
-    rt.stdin().read_to_end(&mut bytes)?;
+    rt.stdin().take(11_206).read_to_end(&mut bytes)?;
     let file = bytes.as_slice();
     let kind = match kind_of(file) {
         Ok(kind) => kind,
-        Err(fault) => return print_fault(&rt, fault),
+        Err(fault) => return print_fault(rt, fault),
     };
     println!(rt; "kind: {kind}")?;
     let words = file.get(4).copied().unwrap_or(0);
     println!(rt; "words: {words}")?;
     match kind {
-        FileKind::Score => show::<Score>(&rt, file),
-        FileKind::Cost => show::<Cost>(&rt, file),
-        FileKind::Mark => show::<Mark<Score>>(&rt, file),
+        FileKind::Score => show::<Score>(rt, file),
+        FileKind::Cost => show::<Cost>(rt, file),
+        FileKind::Mark => show::<Mark<Score>>(rt, file),
     }
+}
+
+fn main(rt: HostRuntime) -> io::Result<()> {
+    ended(&rt, show_input(&rt))
 }

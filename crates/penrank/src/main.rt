@@ -2,6 +2,7 @@
 // first, and a last line that tells why there is no further; or the one line of a refused file.
 #![tactic(auto)]
 
+use console::{ended, refuse_arguments};
 use desk::Memory;
 use file::{FileFault, FileKind, Recorded, kind_of};
 use lines::{Last, last_line, refused_line, tree_line};
@@ -85,8 +86,14 @@ fn rank_file(heap: Global, input: impl Read + Drop, out: &mut impl Write) -> io:
     }
 }
 
-fn main(rt: HostRuntime) -> io::Result<()> {
+// Ranks the file on standard input.
+fn rank_input(rt: &HostRuntime) -> io::Result<()> {
+    refuse_arguments(rt, "penrank < FILE")?;
     rank_file(rt.alloc(), rt.stdin(), &mut rt.stdout())
+}
+
+fn main(rt: HostRuntime) -> io::Result<()> {
+    ended(&rt, rank_input(&rt))
 }
 
 #[cfg(test)]

@@ -8,16 +8,21 @@ ghost use Rattle.pentrace.specs.Script.{calls_in};
 ghost use Rattle.pentrace.specs.Texts.{CallText, ending_text, refusal_text, which_ranking};
 ghost use Rattle.std.specs.Prelude.{◌≡◌, [], ◌∷◌, ◌++◌, IfOk, vec_len, string_bytes, OnOk};
 
+use console::{ended, lines_of, refuse_arguments};
 use desk::Memory;
 use ranking::Taken;
 use refusal::Refusal;
 use run::{Answer, Call, Turn};
 use std::alloc::{AllocError, Global};
 use std::io;
-use std::io::{BufRead, BufReader};
+use std::io::{BufReader, ErrorKind};
 use weight::{Kind, Score};
 
+// How many lines of a script may stand behind an `open`: its calls wait until the next, and an endless script is not waited for.
+const MOST_LINES: usize = 65_536;
+
 // What a line of a script asks for.
+#[derive(Drop)]
 enum Order {
     // a new sheet of so many words
     Open(usize),
@@ -232,25 +237,37 @@ fn run_part(rt: &HostRuntime, part: &Part) -> io::Result<()> {
     }
 }
 
-fn main(rt: HostRuntime) -> io::Result<()> {
+// Reads a script, and runs it part by part.
+fn run_script(rt: &HostRuntime) -> io::Result<()> {
+    refuse_arguments(rt, "pentrace < SCRIPT")?;
     let mut part = Part {
         words: None,
         lines: Vec::new(rt.alloc()),
     };
-    let lines = BufReader::new(rt.alloc(), rt.stdin())?.split(rt.alloc(), b'\n');
+    let lines = lines_of(rt.alloc(), BufReader::new(rt.alloc(), rt.stdin())?);
     for (number, line) in (1..).zip(lines) {
-        let line = line?;
-        match read_order(line.as_slice()) {
-            Some(Order::Open(words)) => {
-                run_part(&rt, &part)?;
-                part = Part {
-                    words: Some(words),
-                    lines: Vec::new(rt.alloc()),
-                };
-            }
+        let order = read_order(line?.as_slice());
+        if let Some(Order::Open(words)) = order {
+            run_part(rt, &part)?;
+            part = Part {
+                words: Some(words),
+                lines: Vec::new(rt.alloc()),
+            };
+            continue;
+        }
+        if part.lines.len() >= MOST_LINES {
+            run_part(rt, &part)?;
+            println!(rt; "line {number}: too many lines for one sheet")?;
+            return Err(ErrorKind::FileTooLarge.into());
+        }
+        match order {
             Some(Order::Call(call)) => part.lines.push(Ok(call))?,
-            None => part.lines.push(Err(number))?,
+            _ => part.lines.push(Err(number))?,
         }
     }
-    run_part(&rt, &part)
+    run_part(rt, &part)
+}
+
+fn main(rt: HostRuntime) -> io::Result<()> {
+    ended(&rt, run_script(&rt))
 }

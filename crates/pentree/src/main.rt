@@ -2,11 +2,12 @@
 // A line is the number of words, then head, dependent and score of each arc.
 #![tactic(auto)]
 
+use console::{ended, lines_of, refuse_arguments};
 use desk::Memory;
 use reading::read_spaced;
 use sheet::Sheet;
 use std::io;
-use std::io::{BufRead, BufReader};
+use std::io::BufReader;
 use tree::write_brackets;
 use weight::{Kind, Score};
 
@@ -72,18 +73,23 @@ fn search_line(
     }
 }
 
-fn main(rt: HostRuntime) -> io::Result<()> {
+// Searches each line of the input.
+fn search_lines(rt: &HostRuntime) -> io::Result<()> {
+    refuse_arguments(rt, "pentree < LINES")?;
     let mut memory = Memory::new(rt.alloc())?;
-    for line in BufReader::new(rt.alloc(), rt.stdin())?.split(rt.alloc(), b'\n') {
-        let line = line?;
-        match read_spaced(rt.alloc(), line.as_slice())? {
+    for line in lines_of(rt.alloc(), BufReader::new(rt.alloc(), rt.stdin())?) {
+        match read_spaced(rt.alloc(), line?.as_slice())? {
             None => println!(rt; "no list of numbers")?,
             Some(numbers) => {
                 if let [words, arcs @ ..] = numbers.as_slice() {
-                    search_line(&rt, usize::from(*words), arcs, &mut memory)?;
+                    search_line(rt, usize::from(*words), arcs, &mut memory)?;
                 }
             }
         }
     }
     Ok(())
+}
+
+fn main(rt: HostRuntime) -> io::Result<()> {
+    ended(&rt, search_lines(&rt))
 }
