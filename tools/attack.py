@@ -75,15 +75,20 @@ def try_all(crate, bugs):
     """Tries the bugs as must-fail edits, and gives what rt says of each."""
     folder = file_of(crate, 'must-fail')
     os.makedirs(folder, exist_ok=True)
+    kept = glob.glob(f'{folder}/*.edit')
     names = []
     try:
+        for path in kept:
+            os.rename(path, path + '.away')
         for i, bug in enumerate(bugs):
             path = f'{folder}/attack{i:03}.edit'
             names.append(path)
-            kept = [line for line in bug if re.match(r'(file|old|new): ', line) or line == 'new:']
-            open(path, 'w').write('\n'.join(kept) + '\n')
+            lines = [line for line in bug if re.match(r'(file|old|new): ', line) or line == 'new:']
+            open(path, 'w').write('\n'.join(lines) + '\n')
         ran = subprocess.run(['rt', 'must-fail', crate], capture_output=True, text=True)
     finally:
+        for path in kept:
+            os.rename(path + '.away', path)
         for path in names:
             if os.path.exists(path):
                 os.remove(path)
