@@ -1,7 +1,8 @@
 #!/usr/bin/env python3
 """Tries planted bugs, one at a time, and tells what refuses each.
 
-usage: python3 tools/attack.py [NAME..]          at the top of the repository, with the crates named proved by `rt check`
+usage: python3 tools/attack.py [NAME..]          at the top of the repository, with the crates named proved by `rt check`: tries what has no `by`
+       python3 tools/attack.py --anew [NAME..]   tries all
        python3 tools/attack.py --seed S NAME..   plants twelve simple bugs by chance in each crate, and lists those that nothing refuses
        python3 tools/attack.py --table           writes the tables of docs/ATTACKS.md anew, from attacks/*.txt
 
@@ -137,15 +138,19 @@ def run_with(crate, bug):
     return None
 
 
-def attack(crate):
+def attack(crate, anew):
     path = f'attacks/{crate}.txt'
     bugs = read_bugs(path)
-    said, log = try_all(crate, bugs)
+    open_bugs = [i for i, bug in enumerate(bugs) if anew or (line_of(bug, 'by') or 'NOT TRIED').startswith('NOT TRIED')]
+    tried, log = try_all(crate, [bugs[i] for i in open_bugs]) if open_bugs else ({}, '')
+    said = {i: tried.get(at) for at, i in enumerate(open_bugs)}
     notes = [line for line in open(path).read().split('\n') if line.startswith('# ')]
     out = ['\n'.join(notes)] if notes else []
     for i, bug in enumerate(bugs):
         note = said.get(i)
-        if note is None:
+        if i not in said:
+            by = line_of(bug, 'by')
+        elif note is None:
             by = 'NOT TRIED'
         elif note.startswith('refused'):
             by = refused_by(crate, note.split('note:')[-1] if 'note:' in note else note)
@@ -153,13 +158,14 @@ def attack(crate):
             by = note
         else:
             by = run_with(crate, bug) or 'NOTHING'
-        print(f'{crate}: {line_of(bug, "bug")}: {by}', flush=True)
+        if i in said:
+            print(f'{crate}: {line_of(bug, "bug")}: {by}', flush=True)
         rest = [line for line in bug if not line.startswith('by: ')]
         at = next((j for j, line in enumerate(rest) if re.match(r'kept: |mended: ', line)), len(rest))
         out.append('\n'.join(rest[:at] + ['by: ' + by] + rest[at:]))
         left = ['\n'.join(bug) for bug in bugs[i + 1:]]
         open(path, 'w').write('\n\n'.join(out + left) + '\n')
-    if any(note is None for note in map(said.get, range(len(bugs)))):
+    if None in said.values():
         print(log[-2000:])
 
 
@@ -246,5 +252,6 @@ elif sys.argv[1:2] == ['--seed']:
     for name in sys.argv[3:]:
         by_chance(name, int(sys.argv[2]))
 else:
-    for name in sys.argv[1:] or sorted(os.path.basename(p)[:-4] for p in glob.glob('attacks/*.txt')):
-        attack(name)
+    anew = '--anew' in sys.argv
+    for name in [word for word in sys.argv[1:] if word != '--anew'] or sorted(os.path.basename(p)[:-4] for p in glob.glob('attacks/*.txt')):
+        attack(name, anew)

@@ -50,5 +50,7 @@ fn main(rt: HostRuntime) -> io::Result<()> {
     memory.sets.fill(0x1ff_ffff_ffff);
     let mut heads = [0; 40];
     let found = run(searches, &mut memory, &mut heads);
-    println!(rt; "searched {searches} lines of 40 words, found {found} trees, the last with the heads {heads:?}")
+    println!(rt;
+        "searched {searches} lines of 40 words, found {found} trees, the last with the heads {heads:?}"
+    )
 }
