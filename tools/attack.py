@@ -3,7 +3,7 @@
 
 usage: python3 tools/attack.py [NAME..]          at the top of the repository, with the crates named proved by `rt check`: tries what has no `by`
        python3 tools/attack.py --anew [NAME..]   tries all
-       python3 tools/attack.py --seed S NAME..   plants twelve simple bugs by chance in each crate, and lists those that nothing refuses
+       python3 tools/attack.py --seed S NAME..   plants a simple bug by chance in each function, and lists those that no contract refuses
        python3 tools/attack.py --table           writes the tables of docs/ATTACKS.md anew, from attacks/*.txt
 
 attacks/NAME.txt holds the bugs of a crate, parted by empty lines. A bug is
@@ -67,6 +67,10 @@ def refused_by(crate, note):
     place, number, why = found.groups()
     clause = re.search(r'`([^`]+)`\)', why) or re.search(r'`([^`]+)`', why)
     what = clause.group(1) if clause else why
+    answered = re.fullmatch(r'proofs/(?:.*/)?\+?([\w]+)/(?:Answers|Invariants)\.antt', place)
+    if answered:
+        goal = re.match(r'error: `([^`]+)`', why)
+        return f'{answered[1]}: {goal[1] if goal else what}, answered by hand'
     where = function_at(crate, place, int(number)) if place.startswith('src') else place
     kind = '' if 'ensures' in why else ' (' + why.split(';')[0].split('(`')[0].replace('it is not proved that ', '').strip()[:70] + ')'
     return f'{where}: {what}{kind}'
@@ -203,21 +207,46 @@ def simple_bugs(crate):
 
 
 def by_chance(crate, seed):
-    """Tries twelve simple bugs of a crate, drawn by chance, and prints those that nothing refuses."""
+    """Plants a simple bug by chance in each function of a crate, checks them all at once, and prints those that nothing refuses.
+
+    A function is proved on the contracts of those that it calls, so each bug is judged alone. The bugs stand in the checkout meanwhile.
+    """
     drawn = simple_bugs(crate)
     random.Random(seed).shuffle(drawn)
-    bugs = [[f'bug: {old.strip()} -> {new.strip()}', f'file: {place}', f'old: {old}', f'new: {new}'] for place, old, new in drawn[:12]]
-    said, _ = try_all(crate, bugs)
-    refused = other = 0
-    for i, bug in enumerate(bugs):
-        note = said.get(i, 'NOT TRIED')
-        if note.startswith('refused'):
-            refused += 1
-        elif 'BAD' in note or note == 'NOT TRIED':
-            other += 1
-        else:
-            print(f'{crate} {bug[1][6:]}: {bug[0][5:]}: {run_with(crate, bug) or "NOTHING"}', flush=True)
-    print(f'{crate}, seed {seed}: {len(drawn)} bugs can be planted, {len(bugs)} tried, {refused} refused by the check, {other} do not build', flush=True)
+    texts = {file_of(crate, place): open(file_of(crate, place)).read() for place, _, _ in drawn}
+    chosen = {}
+    for place, old, new in drawn:
+        number = texts[file_of(crate, place)].split('\n').index(old) + 1
+        chosen.setdefault((place, function_at(crate, place, number)), (number, old, new))
+    unbuilt = 0
+    try:
+        while chosen:
+            for path, text in texts.items():
+                for (place, _), (_, old, new) in chosen.items():
+                    if file_of(crate, place) == path:
+                        text = text.replace(old + '\n', new + '\n', 1)
+                open(path, 'w').write(text)
+            ran = subprocess.run(['rt', 'check'], cwd=f'crates/{crate}', capture_output=True, text=True)
+            said = ran.stdout + ran.stderr
+            if 'logic=' in said:
+                break
+            wrong = {(place, int(number)) for place, number in re.findall(r'(src/[\w/]+\.rt):(\d+):\d+: error', said)}
+            broken = [key for key in chosen if any(key == (place, function_at(crate, place, number)) for place, number in wrong)]
+            unbuilt += len(broken)
+            if not broken:
+                print(f'{crate}, seed {seed}: NOT TRIED: {said.strip()[-200:]}', flush=True)
+                return
+            for key in broken:
+                del chosen[key]
+    finally:
+        for path, text in texts.items():
+            open(path, 'w').write(text)
+    failed = re.findall(r'^\w+ (\S+): (?:not proved|no proof)', said, re.M) if chosen else []
+    survived = [key for key in chosen if not any(re.split(r'::|\+', path)[-1] == key[1] or f'::{key[1]}' in path for path in failed)]
+    for place, name in survived:
+        _, old, new = chosen[place, name]
+        print(f'{crate} {place} {name}: {old.strip()} -> {new.strip()}: NOTHING', flush=True)
+    print(f'{crate}, seed {seed}: {len(chosen)} bugs by chance, {len(chosen) - len(survived)} refused; {unbuilt} more do not build', flush=True)
 
 
 def cell(text):
