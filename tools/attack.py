@@ -3,7 +3,7 @@
 
 usage: python3 tools/attack.py [NAME..]          at the top of the repository, with the crates named proved by `rt check`: tries what has no `by`
        python3 tools/attack.py --anew [NAME..]   tries all
-       python3 tools/attack.py --seed S NAME..   plants a simple bug by chance in each function, and lists those that no contract refuses
+       python3 tools/attack.py --seed S NAME..   plants a simple bug by chance in each function, and lists those that no contract refuses, with what a run shows
        python3 tools/attack.py --table           writes the tables of docs/ATTACKS.md anew, from attacks/*.txt
 
 attacks/NAME.txt holds the bugs of a crate, parted by empty lines. A bug is
@@ -107,6 +107,17 @@ def try_all(crate, bugs):
     return said, ran.stdout + ran.stderr
 
 
+def ran(command, folder):
+    """What a command says in a crate's folder, given the crate's stored input, and what it prints."""
+    stdin = f'{folder}/stdin'
+    given = open(stdin, 'rb').read() if os.path.exists(stdin) else b''
+    try:
+        done = subprocess.run(command, cwd=folder, input=given, capture_output=True, timeout=900)
+    except subprocess.TimeoutExpired:
+        return 'it did not end', b''
+    return (done.stdout + done.stderr).decode(errors='replace'), done.stdout
+
+
 def run_with(crate, bug):
     """Runs a crate's tests, and its program on its stored input, with a bug in it: what differs, or none."""
     path = file_of(crate, line_of(bug, 'file'))
@@ -122,20 +133,19 @@ def run_with(crate, bug):
     folder = f'crates/{crate}'
     try:
         open(path, 'w').write(text)
-        if '#[test]' in before or any('#[test]' in open(p).read() for p in glob.glob(f'{folder}/src/*.rt')):
-            ran = subprocess.run(['rt', 'try', '--test', *LIMITS], cwd=folder, capture_output=True, text=True)
-            failed = re.findall(r'test (\S+) \.\.\. FAILED', ran.stdout)
+        if any('#[test]' in open(p).read() for p in glob.glob(f'{folder}/src/*.rt')):
+            said, _ = ran(['rt', 'test'], folder)
+            failed = re.findall(r'test (\S+) \.\.\. FAILED', said)
             if failed:
                 return 'test ' + ', '.join(name.split('::')[-1] for name in failed)
-            if 'test result: ok' not in ran.stdout:
-                return 'NOT TRIED: ' + (ran.stdout + ran.stderr).strip().split('\n')[-1]
+            if 'test result: ok' not in said:
+                return 'NOT TRIED: ' + said.strip().split('\n')[-1]
         if os.path.exists(f'{folder}/stdin'):
-            given = open(f'{folder}/stdin', 'rb').read()
-            ran = subprocess.run(['rt', 'try', *LIMITS], cwd=folder, input=given, capture_output=True)
-            if b'run=ended' not in ran.stdout + ran.stderr:
-                return 'NOT TRIED: ' + (ran.stdout + ran.stderr).decode(errors='replace').strip().split('\n')[-1]
+            said, printed = ran(['rt', 'run'], folder)
+            if 'linked target' not in said:
+                return 'NOT TRIED: ' + said.strip().split('\n')[-1]
             want = open(f'{folder}/stdout', 'rb').read() if os.path.exists(f'{folder}/stdout') else b''
-            if ran.stdout != want:
+            if printed != want:
                 return 'the stored output'
     finally:
         open(path, 'w').write(before)
@@ -172,9 +182,6 @@ def attack(crate, anew):
     if None in said.values():
         print(log[-2000:])
 
-
-# How far a run goes that shows what a bug does.
-LIMITS = ['--steps', '2000000000', '--seconds', '100']
 
 # Simple bugs: a pattern in a line of code, and what takes its place.
 SWAPS = [(r' < ', ' <= '), (r' <= ', ' < '), (r' > ', ' >= '), (r' >= ', ' > '), (r' == ', ' != '), (r' != ', ' == '), (r' && ', ' || '), (r' \|\| ', ' && '),
@@ -242,11 +249,19 @@ def by_chance(crate, seed):
         for path, text in texts.items():
             open(path, 'w').write(text)
     failed = re.findall(r'^\w+ (\S+): (?:not proved|no proof)', said, re.M) if chosen else []
-    survived = [key for key in chosen if not any(re.split(r'::|\+', path)[-1] == key[1] or f'::{key[1]}' in path for path in failed)]
-    for place, name in survived:
-        _, old, new = chosen[place, name]
-        print(f'{crate} {place} {name}: {old.strip()} -> {new.strip()}: NOTHING', flush=True)
-    print(f'{crate}, seed {seed}: {len(chosen)} bugs by chance, {len(chosen) - len(survived)} refused; {unbuilt} more do not build', flush=True)
+    passed = [key for key in chosen if not any(re.split(r'::|\+', path)[-1] == key[1] or f'::{key[1]}' in path for path in failed)]
+    # Those that stand outside functions, and those that only a run can show, are tried one by one.
+    bugs = [['bug: ' + f'{chosen[key][1].strip()} -> {chosen[key][2].strip()}', 'file: ' + key[0], 'old: ' + chosen[key][1], 'new: ' + chosen[key][2]] for key in passed]
+    tried = try_all(crate, bugs)[0] if bugs else {}
+    seen = survived = 0
+    for i, bug in enumerate(bugs):
+        if not tried.get(i, '').startswith('refused'):
+            by = run_with(crate, bug) or 'NOTHING'
+            seen += by != 'NOTHING'
+            survived += by == 'NOTHING'
+            print(f'{crate} {passed[i][1]}: {line_of(bug, "bug")}: {by}', flush=True)
+    print(f'{crate}, seed {seed}: {len(chosen)} bugs by chance, {len(chosen) - seen - survived} refused, {seen} seen in a run, {survived} by nothing; '
+          f'{unbuilt} more do not build', flush=True)
 
 
 def cell(text):

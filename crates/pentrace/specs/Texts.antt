@@ -1,11 +1,15 @@
 -- The texts of calls and answers.
-use Rattle.std.specs.Prelude.{◌≡◌, ℕ, List, [], ◌++◌, codes, decimal}
+use Rattle.std.specs.Prelude.{ℕ, List, [], ◌∷◌, ◌++◌, take, codes, decimal}
 use Rattle.refusal.specs.Refusals.{number_of}
 use Rattle.refusal.specs.declared.Refusal.TheVariants.{WordCount, ShortMemory, NoDependent, HeadAbove, SelfLoop, NoEntry, AbsentArc, NoTree, NoMore, Fifty, ShortSpace, NotATree}
 use Rattle.refusal.specs.declared.Refusal.{Refusal}
+use Rattle.ranking.specs.declared.Taken.{Taken}
+use Rattle.run.specs.declared.Answer.TheVariants.{Done, Handed, Refused, Misplaced}
+use Rattle.run.specs.declared.Answer.{Answer}
 use Rattle.run.specs.declared.Call.TheVariants.{Put, Strike, Begin, Take, End}
 use Rattle.run.specs.declared.Call.{Call}
-use Rattle.weight.specs.Numbers.{Score}
+use Rattle.weight.specs.Numbers.{Score, score_worth}
+use Rattle.weight.specs.Text.{text}
 
 -- how the ranking ends, where the refusal tells it
 abbrev pub ending_text : Refusal → List ℕ
@@ -26,17 +30,37 @@ abbrev pub refusal_text : Refusal → List ℕ
 refusal_text why = codes "refused " ++ (decimal (number_of why) ++ ending_text why)
 
 -- whether a ranking stands where the call is misplaced
-abbrev pub which_ranking : Call Score → List ℕ
-which_ranking (Put head dependent weight) = codes "a"
-which_ranking (Strike head dependent) = codes "a"
-which_ranking Begin = codes "a"
-which_ranking (Take room) = codes "no"
-which_ranking End = codes "no"
+abbrev pub misplaced_text : Call Score → List ℕ
+misplaced_text (Put head dependent weight) = codes "misplaced, a ranking stands"
+misplaced_text (Strike head dependent) = codes "misplaced, a ranking stands"
+misplaced_text Begin = codes "misplaced, a ranking stands"
+misplaced_text (Take room) = codes "misplaced, no ranking stands"
+misplaced_text End = codes "misplaced, no ranking stands"
 
--- the call as a script has it, whatever the text of a weight
-abbrev pub CallText : Call Score → List ℕ → Type 0
-CallText (Put head dependent weight) bytes = (shown : List ℕ) × (bytes ≡ codes "put " ++ (decimal head ++ (codes " " ++ (decimal dependent ++ (codes " " ++ shown)))))
-CallText (Strike head dependent) bytes = bytes ≡ codes "strike " ++ (decimal head ++ (codes " " ++ decimal dependent))
-CallText Begin bytes = bytes ≡ codes "begin"
-CallText (Take room) bytes = bytes ≡ codes "take " ++ decimal room
-CallText End bytes = bytes ≡ codes "end"
+-- the weight as it is shown
+abbrev pub weight_text : Score → List ℕ
+weight_text weight = text (score_worth weight)
+
+-- the call as a script has it
+abbrev pub call_text : Call Score → List ℕ
+call_text (Put head dependent weight) = codes "put " ++ (decimal head ++ (codes " " ++ (decimal dependent ++ (codes " " ++ weight_text weight))))
+call_text (Strike head dependent) = codes "strike " ++ (decimal head ++ (codes " " ++ decimal dependent))
+call_text Begin = codes "begin"
+call_text (Take room) = codes "take " ++ decimal room
+call_text End = codes "end"
+
+-- the heads, a blank before each
+abbrev pub heads_text : List ℕ → List ℕ
+heads_text [] = []
+heads_text (head ∷ heads) = 32 ∷ (decimal head ++ heads_text heads)
+
+-- a tree that was handed out
+abbrev pub tree_text : ℕ → List ℕ → Taken Score → List ℕ
+tree_text words heads taken = codes "tree " ++ (decimal taken.count ++ (codes ", weight " ++ (weight_text taken.weight ++ (codes ", heads" ++ heads_text (take words heads)))))
+
+-- what the call answered on a sheet of so many words
+abbrev pub answer_text : ℕ → Call Score → Answer Score → List ℕ
+answer_text words call Done = codes "done"
+answer_text words call (Handed heads taken) = tree_text words heads taken
+answer_text words call (Refused why) = refusal_text why
+answer_text words call Misplaced = misplaced_text call

@@ -5,7 +5,7 @@
 
 ghost use Rattle.pentrace.specs.Orders.{Said};
 ghost use Rattle.pentrace.specs.Script.{calls_in};
-ghost use Rattle.pentrace.specs.Texts.{CallText, ending_text, refusal_text, which_ranking};
+ghost use Rattle.pentrace.specs.Texts.{call_text, heads_text, tree_text, answer_text, ending_text, misplaced_text, refusal_text};
 ghost use Rattle.std.specs.Prelude.{◌≡◌, [], ◌∷◌, ◌++◌, IfOk, vec_len, string_bytes, OnOk};
 
 use console::{ended, lines_of, refuse_arguments};
@@ -16,7 +16,7 @@ use run::{Answer, Call, Turn};
 use std::alloc::{AllocError, Global};
 use std::io;
 use std::io::{BufReader, ErrorKind};
-use weight::{Kind, Score};
+use weight::Score;
 
 // How many lines of a script may stand behind an `open`: its calls wait until the next, and an endless script is not waited for.
 const MOST_LINES: usize = 65_536;
@@ -88,22 +88,13 @@ fn calls_in(heap: Global, lines: &[Line]) -> Result<Vec<Call<Score>>, AllocError
     lines.iter().filter_map(|line| line.ok()).collect(heap)
 }
 
-// A weight in decimal.
-fn weight_text(heap: Global, weight: &Score) -> Result<String, AllocError> {
-    let mut space = [0; 32];
-    let long = weight.show(&mut space).unwrap_or(0);
-    let bytes = space.get(..long).unwrap_or(&[]);
-    let shown = std::str::from_utf8(bytes).unwrap_or("");
-    String::from_str(heap, shown)
-}
-
 // A call as it stands in a script.
 fn call_text(heap: Global, call: &Call<Score>) -> Result<String, AllocError>
-    ensures { IfOk result (λ s. CallText call.now (string_bytes s)) }
+    ensures { IfOk result (λ s. string_bytes s ≡ call_text call.now) }
 {
     match call {
         Call::Put(head, dependent, weight) => {
-            let weight = weight_text(heap, weight)?;
+            let weight = weight.value();
             format!(in heap; "put {head} {dependent} {weight}")
         }
         Call::Strike(head, dependent) => format!(in heap; "strike {head} {dependent}"),
@@ -113,20 +104,30 @@ fn call_text(heap: Global, call: &Call<Score>) -> Result<String, AllocError>
     }
 }
 
+// Puts the heads behind the text, a blank before each.
+fn push_heads(heap: Global, text: &mut String, heads: &[u8]) -> Result<(), AllocError>
+    ensures { IfOk result (λ _. string_bytes text.new ≡ string_bytes text.old ++ heads_text heads.now) }
+{
+    for head in heads {
+        let head = format!(in heap; " {head}")?;
+        text.push_str(head.as_str())?;
+    }
+    Ok(())
+}
+
 // A tree that was handed out: its number, its weight and its heads.
 fn tree_text(
     heap: Global,
     words: usize,
     heads: &[u8; 40],
     taken: &Taken<Score>,
-) -> Result<String, AllocError> {
+) -> Result<String, AllocError>
+    ensures { IfOk result (λ s. string_bytes s ≡ tree_text words heads.now taken.now) }
+{
     let count = taken.count;
-    let weight = weight_text(heap, &taken.weight)?;
+    let weight = taken.weight.value();
     let mut text = format!(in heap; "tree {count}, weight {weight}, heads")?;
-    for head in heads.get(..words).unwrap_or(&[]) {
-        let head = format!(in heap; " {head}")?;
-        text.push_str(head.as_str())?;
-    }
+    push_heads(heap, &mut text, heads.get(..words).unwrap_or(heads))?;
     Ok(text)
 }
 
@@ -150,26 +151,25 @@ fn refusal_text(heap: Global, why: Refusal) -> Result<String, AllocError>
     format!(in heap; "{why}{end}")
 }
 
-// Whether a ranking stands where a call is misplaced: none where the call wants one.
-fn which_ranking(call: Call<Score>) -> &'static str
-    ensures { result.now ≡ which_ranking call }
+// Why a call is misplaced: a ranking stands, or none does where the call wants one.
+fn misplaced(call: Call<Score>) -> &'static str
+    ensures { result.now ≡ misplaced_text call }
 {
     match call {
-        Call::Take(_) | Call::End => "no",
-        _ => "a",
+        Call::Take(_) | Call::End => "misplaced, no ranking stands",
+        _ => "misplaced, a ranking stands",
     }
 }
 
 // What a turn on a sheet of so many words answered.
-fn answer_text(heap: Global, words: usize, turn: &Turn<Score>) -> Result<String, AllocError> {
+fn answer_text(heap: Global, words: usize, turn: &Turn<Score>) -> Result<String, AllocError>
+    ensures { IfOk result (λ s. string_bytes s ≡ answer_text words turn.now.call turn.now.answer) }
+{
     match &turn.answer {
         Answer::Done => String::from_str(heap, "done"),
         Answer::Handed(heads, taken) => tree_text(heap, words, heads, taken),
         Answer::Refused(why) => refusal_text(heap, *why),
-        Answer::Misplaced => {
-            let which = which_ranking(turn.call);
-            format!(in heap; "misplaced, {which} ranking stands")
-        }
+        Answer::Misplaced => String::from_str(heap, misplaced(turn.call)),
     }
 }
 

@@ -43,6 +43,15 @@ impl Cost {
     }
 }
 
+impl<S: Span> Single<S> {
+    // The number at the one place.
+    pub fn value(&self) -> i64
+        ensures { single_worth self.now ≡ result ∷ [] }
+    {
+        self.value
+    }
+}
+
 impl<S: Span> Kind for Single<S> {
     ghost places = { 1 };
 
@@ -78,7 +87,7 @@ impl<S: Span> Kind for Single<S> {
     }
 
     fn compare(&self, other: &Single<S>) -> Ordering {
-        self.value.cmp(&other.value)
+        i64::cmp(&self.value, &other.value)
     }
 
     fn entry(&self) -> bool {
