@@ -4,7 +4,7 @@
 usage: python3 tools/attack.py [NAME..]          at the top of the repository, with the crates named proved by `rt check`: tries what has no `by`
        python3 tools/attack.py --anew [NAME..]   tries all
        python3 tools/attack.py --seed S NAME..   plants a simple bug by chance in each function, and lists those that no contract refuses, with what a run shows
-       python3 tools/attack.py --table           writes the tables of docs/ATTACKS.md anew, from attacks/*.txt
+       python3 tools/attack.py --table           writes the tables of docs/ATTACKS.md anew, from attacks/*.txt, and lists the bugs that no longer fit the code
 
 attacks/NAME.txt holds the bugs of a crate, parted by empty lines. A bug is
 
@@ -268,6 +268,12 @@ def cell(text):
     return (text or '').replace('|', '\\|')
 
 
+def misfits(crate, bug):
+    """The texts of a bug that do not stand once in their file."""
+    text = open(file_of(crate, line_of(bug, 'file'))).read()
+    return [line[5:] for line in bug if line.startswith('old: ') and text.count(line[5:]) != 1]
+
+
 def table():
     path = 'docs/ATTACKS.md'
     mark = '<!-- tables -->\n'
@@ -281,6 +287,8 @@ def table():
         notes = [line[2:] for line in open(f'attacks/{crate}.txt').read().split('\n') if line.startswith('# ')]
         rows = [f'### `{crate}` ({len(bugs)})', ''] + [note + '\n' for note in notes] + ['| bug | refused by |', '|---|---|']
         for bug in bugs:
+            if misfits(crate, bug):
+                print(f'{crate}: {line_of(bug, "bug")}: no longer fits the code: {misfits(crate, bug)}')
             by = line_of(bug, 'by') or 'NOT TRIED'
             mended = line_of(bug, 'mended')
             kept = line_of(bug, 'kept')

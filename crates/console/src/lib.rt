@@ -98,5 +98,12 @@ pub fn refuse_arguments(rt: &HostRuntime, usage: &str) -> io::Result<()> {
     Err(ErrorKind::InvalidInput.into())
 }
 
+// Prints a text of bytes under a name.
+// It only writes standard output, of which no contract can speak.
+pub fn print_text(rt: &HostRuntime, name: &str, bytes: &[u8]) -> io::Result<()> {
+    let text = std::str::from_utf8(bytes).unwrap_or("");
+    println!(rt; "{name}: {text}")
+}
+
 #[cfg(test)]
 mod tests;

@@ -5,7 +5,7 @@ ghost use Rattle.penbracket.specs.Drawing.{Told};
 ghost use Rattle.penbracket.specs.declared.Fault.TheVariants.{Memory};
 ghost use Rattle.std.specs.Prelude.{◌≡◌};
 
-use console::{ended, lines_of, refuse_arguments};
+use console::{ended, lines_of, print_text, refuse_arguments};
 use reading::read_spaced;
 use refusal::Refusal;
 use std::alloc::{AllocError, Global};
@@ -96,13 +96,6 @@ fn print_steps(rt: &HostRuntime, line: &[u8]) -> io::Result<()> {
 fn print_heads(rt: &HostRuntime, line: &[u8], words: usize) -> io::Result<()> {
     print_text(rt, "heads", line)?;
     println!(rt; "words: {words}")
-}
-
-// Prints a text of bytes under a name.
-// It only writes standard output, of which no contract can speak, so it stands in the program.
-fn print_text(rt: &HostRuntime, name: &str, bytes: &[u8]) -> io::Result<()> {
-    let text = std::str::from_utf8(bytes).unwrap_or("");
-    println!(rt; "{name}: {text}")
 }
 
 // Draws each line of the input.

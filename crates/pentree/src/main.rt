@@ -2,14 +2,14 @@
 // A line is the number of words, then head, dependent and score of each arc.
 #![tactic(auto)]
 
-use console::{ended, lines_of, refuse_arguments};
+use console::{ended, lines_of, print_text, refuse_arguments};
 use desk::Memory;
 use reading::read_spaced;
 use sheet::Sheet;
 use std::io;
 use std::io::BufReader;
 use tree::write_brackets;
-use weight::{Kind, Score};
+use weight::Score;
 
 // Puts the arcs of a line on the sheet, and prints each.
 fn put_all(
@@ -35,21 +35,14 @@ fn put_all(
 
 // Prints the tree that was found.
 fn print_tree(rt: &HostRuntime, weight: Score, heads: &[u8]) -> io::Result<()> {
-    let mut space = [0; 160];
-    let long = weight.show(&mut space).unwrap_or(0);
-    print_text(rt, "weight", space.get(..long).unwrap_or(&[]))?;
+    let weight = weight.value();
+    println!(rt; "weight: {weight}")?;
     for (word, head) in (1..=40).zip(heads) {
         println!(rt; "head of {word}: {head}")?;
     }
+    let mut space = [0; 160];
     let long = write_brackets(heads, &mut space).unwrap_or(0);
     print_text(rt, "brackets", space.get(..long).unwrap_or(&[]))
-}
-
-// Prints a text of bytes under a name.
-// It only writes standard output, of which no contract can speak, so it stands in the program.
-fn print_text(rt: &HostRuntime, name: &str, bytes: &[u8]) -> io::Result<()> {
-    let text = std::str::from_utf8(bytes).unwrap_or("");
-    println!(rt; "{name}: {text}")
 }
 
 // Opens a sheet for one line, puts its arcs, and searches.
