@@ -3,7 +3,8 @@ use bench::{Plain, list, lists};
 use ranking::Taken;
 use refusal::Refusal;
 use std::alloc::{AllocError, Global};
-use weight::Kind;
+use std::test::Fail;
+use weight::{Kind, Score};
 
 // A tree: its heads and its weight.
 #[derive(Drop)]
@@ -62,4 +63,33 @@ impl<K: Kind + Copy> Trees<K> {
         self.handed = self.handed.saturating_add(1);
         none_above && tree.weight.compare(weight).is_eq() && taken.count == self.handed
     }
+}
+
+// Only a heaviest tree, which was not handed out before, is right, with its own weight and count.
+#[test]
+fn only_a_heaviest_tree_is_right(rt: HostRuntime) -> Result<(), Fail> {
+    let heap = rt.alloc();
+    let mut plain = Plain::new(heap)?;
+    plain.reset(2);
+    for (head, dependent, score) in [(0, 1, 10), (0, 2, 8), (1, 2, 3), (2, 1, 4)] {
+        assert_eq!(rt; plain.put(head, dependent, Score::new(score)), Ok(()));
+    }
+    let takes = [
+        (&[0, 1], 13, 1, true),
+        (&[2, 0], 12, 1, false),
+        (&[0, 0], 18, 1, false),
+        (&[0, 1], 12, 1, false),
+        (&[0, 1], 14, 1, false),
+        (&[0, 1], 13, 0, false),
+    ];
+    for (heads, score, count, right) in takes {
+        let mut trees = Trees::new(heap, &plain)?;
+        let weight = Score::new(score);
+        assert_eq!(rt; trees.hands_out(heads, &Taken { weight, count }), right);
+    }
+    let mut trees = Trees::new(heap, &plain)?;
+    let (weight, count) = (Score::new(13), 1);
+    assert!(rt; trees.hands_out(&[0, 1], &Taken { weight, count }));
+    assert!(rt; !trees.hands_out(&[0, 1], &Taken { weight, count: 2 }));
+    Ok(())
 }
