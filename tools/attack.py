@@ -17,7 +17,7 @@ attacks/NAME.txt holds the bugs of a crate, parted by empty lines. A bug is
 with more pairs of old and new where one does not do. `by` is written by this script: the function and the clause that is not
 proved, or the test or stored output that differs. A bug that nothing refuses has `by: NOTHING`. A line `kept: NAME` says that the
 bug is the must-fail edit NAME, and `mended: ..` what was strengthened for it; both are written by hand. Lines that begin with `# ` tell
-what was tried by chance.
+what holds of the whole file.
 """
 import glob
 import os

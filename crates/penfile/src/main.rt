@@ -52,7 +52,7 @@ fn print_arcs<K: Kind + Copy>(
 ) -> io::Result<()> {
     let mut arcs = Vec::new(rt.alloc());
     let rows = memory.weights.chunks(sheet.words() + 1);
-    for (dependent, (row, set)) in (1..=40).zip(rows.zip(memory.sets.iter())) {
+    for (dependent, (row, set)) in (1..).zip(rows.zip(memory.sets.iter())) {
         for (head, weight) in row.iter().enumerate() {
             if holds(*set, head) {
                 arcs.push((head, dependent, *weight))?;

@@ -37,7 +37,7 @@ fn put_all(
 fn print_tree(rt: &HostRuntime, weight: Score, heads: &[u8]) -> io::Result<()> {
     let weight = weight.value();
     println!(rt; "weight: {weight}")?;
-    for (word, head) in (1..=40).zip(heads) {
+    for (word, head) in (1..).zip(heads) {
         println!(rt; "head of {word}: {head}")?;
     }
     let mut space = [0; 160];
