@@ -190,6 +190,10 @@ SWAPS = [(r' < ', ' <= '), (r' <= ', ' < '), (r' > ', ' >= '), (r' >= ', ' > '),
          (r'Less', 'Greater'), (r'\.and_then', '.or_else'), (r'\.all\(', '.any('), (r'\.any\(', '.all('), (r'\bSome\((\w+)\) =>', r'Some(\1) if false =>')]
 
 
+# A field, an argument or a variant with its type: a bug there does not build.
+TYPED = r'\s*(pub )?\w+(: .*\[\w+; \d+\]|\([a-z]\w*, [a-z]\w*\)),$'
+
+
 def simple_bugs(crate):
     """The simple bugs of a crate: each a file, a line that stands once in it, and what to put in its place."""
     bugs = []
@@ -200,7 +204,7 @@ def simple_bugs(crate):
         lines = text.split('\n')
         for line in lines:
             bare = line.split('//')[0]
-            if not bare.strip() or lines.count(line) > 1 or re.match(r'\s*(ensures|requires|ghost|pub |use |fn |impl|invariant|decreases|#)', bare):
+            if not bare.strip() or lines.count(line) > 1 or re.match(TYPED, bare) or re.match(r'\s*(ensures|requires|ghost|pub |use |fn |impl|invariant|decreases|#)', bare):
                 continue
             found = [(m.start(), m.end(), m.expand(new)) for swap, new in SWAPS for m in re.finditer(swap, bare)]
             for m in re.finditer(r'(?<![\w.])(\d+)(?![\w.])', bare):
