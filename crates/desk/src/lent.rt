@@ -1,11 +1,12 @@
 // The calls that are lent their memory in a struct, over a slice for each part: no struct is made of parts of vectors that lie
 // behind a `&mut`.
-ghost use Rattle.std.specs.Prelude.{◌≡◌, ℕ, ◌+◌, length};
+ghost use Rattle.std.specs.Prelude.{◌≡◌, ℕ, ◌+◌, take, length};
 ghost use Rattle.ranking.specs.Calls.{Took, lengths_of};
 ghost use Rattle.run.specs.Loans.{lists};
 ghost use Rattle.run.specs.Steps.{Ran, run_check};
 ghost use Rattle.search.specs.Answer.{Searched, barring};
 ghost use Rattle.search.specs.Arcs.{allowed, weight_at};
+ghost use Rattle.search.specs.Choice.{Settles};
 ghost use Rattle.search.specs.State.{Room};
 ghost use Rattle.sheet.specs.Calls.{Answered};
 
@@ -27,7 +28,8 @@ pub(crate) fn search_in<K: Kind + Copy>(
     potentials: &mut [Root<K>],
     heads: &mut [u8],
 ) -> Result<Option<K>, Refusal>
-    ensures { Searched K.Kind.worth K.Kind.ranges words (allowed sets.now held.now) (weight_at K.Kind.worth words weights.now) (Room words (length sets.now) (length weights.now) (length nodes.old) (length merges.old) (length potentials.old)) heads.old heads.new result }
+    ensures told { Searched K.Kind.worth K.Kind.ranges words (allowed sets.now held.now) (weight_at K.Kind.worth words weights.now) (Room words (length sets.now) (length weights.now) (length nodes.old) (length merges.old) (length potentials.old)) heads.old heads.new result }
+    ensures settled { Settles K.Kind.ranges words (allowed sets.now held.now) (weight_at K.Kind.worth words weights.now) (take words heads.new) result }
 {
     let working = &mut Working {
         nodes,
@@ -51,6 +53,7 @@ pub(crate) fn search_barring_in<K: Kind + Copy>(
 ) -> Result<Option<K>, Refusal>
     ensures kept { sets.new ≡ sets.old }
     ensures told { Searched K.Kind.worth K.Kind.ranges words (barring (allowed sets.old held.now) (length held.now + 1) barred) (weight_at K.Kind.worth words weights.now) (Room words (length sets.old) (length weights.now) (length nodes.old) (length merges.old) (length potentials.old)) heads.old heads.new result }
+    ensures settled { Settles K.Kind.ranges words (barring (allowed sets.old held.now) (length held.now + 1) barred) (weight_at K.Kind.worth words weights.now) (take words heads.new) result }
 {
     let working = &mut Working {
         nodes,

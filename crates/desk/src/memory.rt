@@ -1,5 +1,5 @@
 // The memory of a sheet, and the calls that work in it.
-ghost use Rattle.std.specs.Prelude.{◌≡◌, ℕ, ◌+◌, length, replicate, is_some, IfOk, Some, None, vec_len};
+ghost use Rattle.std.specs.Prelude.{◌≡◌, ℕ, ◌+◌, take, length, replicate, is_some, IfOk, Some, None, vec_len};
 
 use crate::lent::{run_in, search_barring_in, search_in, take_in};
 use file::{FileFault, Recorded};
@@ -31,6 +31,7 @@ impl<K: Opens + Copy> Memory<K> {
     ghost use Rattle.run.specs.Steps.{Ran, run_check};
     ghost use Rattle.search.specs.Answer.{Searched, barring};
     ghost use Rattle.search.specs.Arcs.{allowed, weight_at};
+    ghost use Rattle.search.specs.Choice.{Settles};
     ghost use Rattle.search.specs.State.{Room};
     ghost use Rattle.sheet.specs.Arcs.{arcs_in, no_arcs, with_arc};
     ghost use Rattle.sheet.specs.Calls.{Answered, Holds, open_check, put_check, strike_check};
@@ -96,6 +97,7 @@ impl<K: Opens + Copy> Memory<K> {
         heads: &mut [u8],
     ) -> Result<Option<K>, Refusal>
         ensures told { Searched K.Kind.worth K.Kind.ranges words (allowed self.old.sets.items held.now) (weight_at K.Kind.worth words self.old.weights.items) (Room words 40 1640 41 39 41) heads.old heads.new result }
+        ensures settled { Settles K.Kind.ranges words (allowed self.old.sets.items held.now) (weight_at K.Kind.worth words self.old.weights.items) (take words heads.new) result }
         ensures others { parts_of self.new ≡ record (parts_of self.old) { nodes = self.new.nodes.items; merges = self.new.merges.items; potentials = self.new.potentials.items } }
     {
         let (weights, sets) = (&self.weights, &self.sets);
@@ -117,6 +119,7 @@ impl<K: Opens + Copy> Memory<K> {
         heads: &mut [u8],
     ) -> Result<Option<K>, Refusal>
         ensures told { Searched K.Kind.worth K.Kind.ranges words (barring (allowed self.old.sets.items held.now) (length held.now + 1) barred) (weight_at K.Kind.worth words self.old.weights.items) (Room words 40 1640 41 39 41) heads.old heads.new result }
+        ensures settled { Settles K.Kind.ranges words (barring (allowed self.old.sets.items held.now) (length held.now + 1) barred) (weight_at K.Kind.worth words self.old.weights.items) (take words heads.new) result }
         ensures others { parts_of self.new ≡ record (parts_of self.old) { nodes = self.new.nodes.items; merges = self.new.merges.items; potentials = self.new.potentials.items } }
     {
         let weights = &self.weights;

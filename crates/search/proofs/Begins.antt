@@ -31,6 +31,7 @@ module _ {K : Type 0} (f : K → Worth) (n : ℕ) (stands : ℕ → ℕ → Bool
           arc = record { word = v; in_line = a.0; standing = a.1; inside = refl; outside = λ q. both_ways (in_set members from) a.2 (is from ∙ eq-eqb from word q) };
           valued = same ∙ sym (whole from word v a.0);
           covers = λ h d i. rw (whole h d i.word i.in_line, same, i.inside) (best.1 h (scan h d i));
+          first = λ h d i m. inr (sym i.inside, best.2 h (scan h d i) (rw (whole h d i.word i.in_line, same, i.inside) at m));
         }
 
   pub begin_more : (words : List (Node K)) (k : ℕ) (x : Node K) → 1 ≤ k → k < length words → BegunAt n stands worth z (view f x) k → Begun n (k - 1) stands worth z (group_at f words) → Begun n (k + 1 - 1) stands worth z (group_at f (set words k x))

@@ -11,7 +11,7 @@ use Rattle.search.specs.declared.arcs.Entering.{Entering}
 use Rattle.word_set.specs.Bits.{in_set}
 use Rattle.weight.specs.Layers.{root_worth}
 use Rattle.search.specs.Arcs.{Best, SetArc, with_potential}
-use Rattle.search.specs.Family.{Group, rep_of, best_of, add_of, Joined, Valid}
+use Rattle.search.specs.Family.{Group, rep_of, from_of, best_of, add_of, OnFirstWay, Joined, Valid}
 use Rattle.search.specs.Ring.{Laid, Ring}
 use Rattle.search.proofs.Rings.{best_same_set}
 
@@ -64,10 +64,10 @@ module _ {K : Type 0} (f : K → Worth) (p n : ℕ) (stands : ℕ → ℕ → Bo
         NewIs d v ∙ (ap (λ (x : Worth). cond (in_set S d) (minus x (best_of base ms d)) (old d)) a ∙ (ap (λ (x : Worth). cond (in_set S d) (minus (plus (add_of n z base ms d) sum) x) (old d)) b ∙ ap (λ (x : Worth). cond (in_set S d) (minus (plus (add_of n z base ms d) sum) (best_of base ms (rep_of ms d))) x) (agree d v))) in
         c ∙ ap (λ (t : ℕ). raised (in_set t) n (rep_of ms) (add_of n z base ms) (best_of base ms) d) (sym e)
 
-    pub valid_after : Valid n stands worth (zeros (suc p)) base ms → Ring n base ms S → (e : Entering K) →
+    pub valid_after : Valid n stands worth (zeros (suc p)) base ms → Ring n base ms S → (w : ℕ) × (in_set S w ≡ true) × OnFirstWay n (from_of base ms) w → (e : Entering K) →
         Best f (SetArc n (n + 1) stands S) (with_potential worth new) (Some e) → (m : Group) → m ≡ record { members = S; from = e.from; to = e.to; value = root_worth f e.value } →
         Valid n stands worth (zeros (suc p)) base (m ∷ ms)
-    valid_after valid ring e best m is = subst (λ (g : Group). Valid n stands worth (zeros (suc p)) base (g ∷ ms)) (sym is) (valid, joined)
+    valid_after valid ring chosen e best m is = subst (λ (g : Group). Valid n stands worth (zeros (suc p)) base (g ∷ ms)) (sym is) (valid, joined)
       where
         a : SetArc n (n + 1) stands S e.from e.to
         a = best.0
@@ -84,4 +84,7 @@ module _ {K : Type 0} (f : K → Worth) (p n : ℕ) (stands : ℕ → ℕ → Bo
               arc = from_scan base ms laid S ring e.to a.word a.within e.from e.to a;
               valued = best.1 ∙ ap (plus (worth e.from e.to)) (adds e.to a.word);
               covers = λ h d i. subst (λ (x : Worth). AtMost (plus (worth h d) x) (root_worth f e.value)) (adds d i.word) (best.2 h d (to_scan base ms laid S ring e.to a.word a.within h d i));
+              first = λ h d i v. best.3 h d (to_scan base ms laid S ring e.to a.word a.within h d i) (subst (λ (x : Worth). AtMost (root_worth f e.value) (plus (worth h d) x)) (sym (adds d i.word)) v);
+              in_line = ring.in_line;
+              chosen = chosen;
             }

@@ -13,3 +13,5 @@ mod Heads
 mod Begins
 mod Finds
 mod Barring
+pub mod Choosing
+mod Found

@@ -107,7 +107,7 @@ module _ (p n : ℕ) (few : n ≤ 40) (stands : ℕ → ℕ → Bool) (worth : �
   valid_count (m ∷ ms) valid = by (valid_count ms valid.0)
     where
       ring : Ring n base ms m.members
-      ring = record { root = valid.1.union.root; closed = λ v le. merges.closed n (rep_of ms) (in_set m.members) m.to (valid_sets n stands worth (zeros (suc p)) sound.whole base ms valid.0) valid.1.union v le; some = (m.to, valid.1.union.word, valid.1.union.inside); within = valid.1.within; round = valid.1.round }
+      ring = record { root = valid.1.union.root; in_line = valid.1.in_line; closed = λ v le. merges.closed n (rep_of ms) (in_set m.members) m.to (valid_sets n stands worth (zeros (suc p)) sound.whole base ms valid.0) valid.1.union v le; some = (m.to, valid.1.union.word, valid.1.union.inside); within = valid.1.within; round = valid.1.round }
 
       by : length ms + count_if (leads (rep_of ms)) (λ _. 1) n ≤ n → length (m ∷ ms) + count_if (leads (rep_of (m ∷ ms))) (λ _. 1) n ≤ n
       by le = omega (arith, le, fewer_sets p n few stands worth sound base ms valid.0 m.members ring m.to valid.1.union)

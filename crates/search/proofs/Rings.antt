@@ -39,7 +39,7 @@ module _ (n : ℕ) (base : ℕ → Group) (ms : List Group) (laid : Laid n base 
 
   pub going_start : (word S : ℕ) → Word n word → ((v : ℕ) → in_set S v ≡ false) → Going n base ms word word S
   going_start word S v no_word =
-      record { here = v; came = (0, refl); root = no_word 0; closed = λ x le. no_word (rep_of ms x) ∙ sym (no_word x); met = λ ℓ l t. absurd (both_ways (in_set S ℓ) (no_word ℓ) t); within = λ ℓ l t. absurd (both_ways (in_set S ℓ) (no_word ℓ) t) }
+      record { here = v; came = (0, refl); begun = inl refl; in_line = λ x t. absurd (both_ways (in_set S x) (no_word x) t); root = no_word 0; closed = λ x le. no_word (rep_of ms x) ∙ sym (no_word x); met = λ ℓ l t. absurd (both_ways (in_set S ℓ) (no_word ℓ) t); within = λ ℓ l t. absurd (both_ways (in_set S ℓ) (no_word ℓ) t) }
 
   module _ (word at S more S' at' : ℕ) (around : Periodic (from_of base ms) word) (start : Word n word) (going : Going n base ms word at S)
       (is : (v : ℕ) → in_set S' v ≡ (in_set S v || in_set more v)) (members : more ≡ (entry base ms at).members) (step : at' ≡ from_of base ms at) where
@@ -70,12 +70,25 @@ module _ (n : ℕ) (base : ℕ → Group) (ms : List Group) (laid : Laid n base 
         record {
           here = here';
           came = came';
+          begun = inr begun;
+          in_line = λ v t. in_line v (or_cases (in_set S v) (in_set more v) (sym (is v) ∙ t));
           root = is 0 ∙ (ap (λ (b : Bool). b || in_set more 0) going.root ∙ (new 0 (omega arith) ∙ ne_eqb (rep_of ms 0) (rep_of ms at) (λ e. let q : rep_of ms at ≡ 0 = sym e ∙ laid.sets.root in let w = laid.sets.word at going.here in omega arith)));
           closed = λ v le. closed v le (rep_le v le);
           met = λ ℓ l t. met ℓ l (old_or ℓ l.word.1 t);
           within = λ ℓ l t. inside ℓ l (old_or ℓ l.word.1 t);
         }
       where
+        begun : in_set S' word ≡ true
+        begun = by going.begun
+          where
+            by : (at ≡ word) ⊎ (in_set S word ≡ true) → in_set S' word ≡ true
+            by (inl e) = subst (λ (x : ℕ). in_set S' x ≡ true) e (is at ∙ or_right (in_set S at) (in_set more at) at_new)
+            by (inr t) = is word ∙ or_left (in_set S word) (in_set more word) t
+
+        in_line : (v : ℕ) → (in_set S v ≡ true) ⊎ (in_set more v ≡ true) → v ≤ n
+        in_line v (inl t) = going.in_line v t
+        in_line v (inr t) = laid.sets_in_line at going.here v (subst (λ (x : ℕ). in_set x v ≡ true) members t)
+
         rep_le : (v : ℕ) → v ≤ n → rep_of ms v ≤ n
         rep_le zero le = subst (λ (x : ℕ). x ≤ n) (sym laid.sets.root) le
         rep_le (suc v) le = (laid.sets.word (suc v) (omega arith)).1
@@ -105,6 +118,7 @@ module _ (n : ℕ) (base : ℕ → Group) (ms : List Group) (laid : Laid n base 
   ring_done word at S around start going t =
       record {
         root = going.root;
+        in_line = going.in_line;
         closed = going.closed;
         some = (at, going.here, t);
         within = λ ℓ l s. by ℓ (going.within ℓ l s);
@@ -119,3 +133,11 @@ module _ (n : ℕ) (base : ℕ → Group) (ms : List Group) (laid : Laid n base 
       by : (ℓ : ℕ) → (in_set S (from_of base ms ℓ) ≡ true) ⊎ (from_of base ms ℓ ≡ at) → in_set S (from_of base ms ℓ) ≡ true
       by ℓ (inl x) = x
       by ℓ (inr e) = subst (λ (x : ℕ). in_set S x ≡ true) (sym e) t
+
+  -- the word that the walk began at is on the ring
+  pub ring_here : (word at S : ℕ) → Going n base ms word at S → in_set S at ≡ true → in_set S word ≡ true
+  ring_here word at S going t = by going.begun
+    where
+      by : (at ≡ word) ⊎ (in_set S word ≡ true) → in_set S word ≡ true
+      by (inl e) = subst (λ (x : ℕ). in_set S x ≡ true) e t
+      by (inr u) = u

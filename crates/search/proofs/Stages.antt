@@ -1,10 +1,11 @@
 use Rattle.std.proofs.Common.{◌≡◌, ℕ, zero, suc, ◌≤◌, Bool, true, false, eqb, ◌⊎◌, ⊎_elim, List, [], ◌∷◌, sym, refl, ◌∙◌, subst, inl, inr, arith}
-use Rattle.std.proofs.lemmas.Bool.{cases_Bool, both_ways, cond-false, cond_both, eq-eqb, ne_eqb}
+use Rattle.std.proofs.lemmas.Bool.{cases_Bool, both_ways, cond-false, cond_both, eq-eqb, ne_eqb, eqb-true}
 use Rattle.weight.specs.Worth.{Worth, plus}
 use Rattle.tree.specs.Chains.{Word}
 use Rattle.arborescence.specs.Search.{Union}
 use Rattle.arborescence.proofs.Merged as merges
 use Rattle.word_set.specs.Bits.{in_set}
+use Rattle.search.specs.Arcs.{InLine}
 use Rattle.search.specs.Family.{Group, entry, rep_of, from_of, Begun, Valid}
 use Rattle.search.specs.Ring.{Laid}
 use Rattle.search.proofs.Records.{entry_to}
@@ -42,8 +43,11 @@ module _ (n : ℕ) (stands : ℕ → ℕ → Bool) (worth : ℕ → ℕ → Wort
 
   pub valid_laid : (ms : List Group) → Valid n stands worth z base ms → Laid n base ms
   valid_laid [] valid =
-      record { sets = valid_sets n stands worth z nought base [] valid; same = λ w le. refl; members = λ w v word le. (valid.words w word).single v; own = own valid; in_line = line; root = valid.root }
+      record { sets = valid_sets n stands worth z nought base [] valid; same = λ w le. refl; members = λ w v word le. (valid.words w word).single v; own = own valid; in_line = line; root = valid.root; sets_in_line = λ w v x t. alone w v x (sym ((valid.words w v).single x) ∙ t) }
     where
+      alone : (w : ℕ) → Word n w → (x : ℕ) → eqb x w ≡ true → x ≤ n
+      alone w v x e = omega (arith, eqb-true x w e, v.1)
+
       line : (w : ℕ) → w ≤ n → (base w).from ≤ n
       line zero le = subst (λ (x : ℕ). x ≤ n) (sym valid.root) le
       line (suc w) le = (valid.words (suc w) (omega arith)).arc.in_line
@@ -58,4 +62,5 @@ module _ (n : ℕ) (stands : ℕ → ℕ → Bool) (worth : ℕ → ℕ → Wort
             own = λ w le. entry_to base n (own (valid_begun ms valid.0)) (m ∷ ms) w le;
             in_line = λ w le. cond_both (in_set m.members w) m.from (from_of base ms w) (λ (x : ℕ). x ≤ n) (λ t. valid.1.arc.in_line) (λ f. old.in_line w le);
             root = cond-false (in_set m.members 0) m.from (from_of base ms 0) valid.1.union.root ∙ old.root;
+            sets_in_line = λ w v. cond_both (in_set m.members w) m (entry base ms w) (λ (g : Group). InLine n g.members) (λ t. valid.1.in_line) (λ f. old.sets_in_line w v);
           }

@@ -1,5 +1,5 @@
 -- A state of the search, and the one after a merge
-use Rattle.std.proofs.Common.{◌≡◌, ℕ, suc, ◌+◌, ◌^◌, ◌<◌, ◌≤◌, Bool, cond, ◌&&◌, List, [], ◌∷◌, ◌++◌, map, reverse, length, get_or, set, Some, sym, refl, ap, ◌∙◌, subst, arith}
+use Rattle.std.proofs.Common.{◌≡◌, ℕ, suc, ◌+◌, ◌^◌, ◌<◌, ◌≤◌, Bool, true, cond, ◌&&◌, List, [], ◌∷◌, ◌++◌, map, reverse, length, get_or, set, Some, sym, refl, ap, ◌∙◌, subst, arith}
 use Rattle.std.proofs.lemmas.List.{map-set, get_or-set_same, get_or-set_other, length-map, length-reverse}
 use Rattle.weight.specs.Worth.{Worth, zeros, plus, minus, Within}
 use Rattle.tree.specs.Chains.{Word}
@@ -11,7 +11,7 @@ use Rattle.search.specs.declared.graph.Graph.{Graph}
 use Rattle.word_set.specs.Bits.{in_set}
 use Rattle.weight.specs.Layers.{Root, root_worth}
 use Rattle.search.specs.Arcs.{stands_in, arc_in, SoundIn, potential, Best, SetArc, with_potential}
-use Rattle.search.specs.Family.{Group, rep_of, best_of, add_of, Valid}
+use Rattle.search.specs.Family.{Group, rep_of, from_of, best_of, add_of, OnFirstWay, Valid}
 use Rattle.search.specs.State.{view, blank, group_at, sets_of, NoTree, StateIn}
 use Rattle.search.specs.Ring.{Laid, Ring}
 use Rattle.search.proofs.Records.{newest}
@@ -69,10 +69,10 @@ module _ {K : Type 0} (f : K → Worth) (p : ℕ) (graph : Graph K) (sound : Sou
           rw (agree' (record { members = S; from = 0; to = 0; value = [] }) refl d v)
           (within_more (2 ^ 26) (2 ^ 30) _ (omega arith) (new_small p graph.words graph.few (stands_in graph) (arc_in f graph) sound (group_at f nodes) ms state.valid S ring d v))
 
-      pub state_after : (x : Node K) (made' : List (Node K)) → made' ≡ made ++ (x ∷ []) → x.members ≡ S → Best f (SetArc graph.words (graph.words + 1) (stands_in graph) S) (with_potential (arc_in f graph) (potential f adds')) (Some x.arc) → StateIn f p graph nodes made' adds'
-      state_after x made' more is best =
+      pub state_after : (w : ℕ) × (in_set S w ≡ true) × OnFirstWay graph.words (from_of (group_at f nodes) (sets_of f made)) w → (x : Node K) (made' : List (Node K)) → made' ≡ made ++ (x ∷ []) → x.members ≡ S → Best f (SetArc graph.words (graph.words + 1) (stands_in graph) S) (with_potential (arc_in f graph) (potential f adds')) (Some x.arc) → StateIn f p graph nodes made' adds'
+      state_after chosen x made' more is best =
           let q = newest f made' made x more in
           record {
-            valid = subst (Valid graph.words (stands_in graph) (arc_in f graph) (zeros (suc p)) (group_at f nodes)) (sym q) (valid_after f p graph.words (stands_in graph) (arc_in f graph) (group_at f nodes) ms laid (potential f adds) (potential f adds') S all full all-is NewIs state.agree state.valid ring x.arc best (view f x) (rw is refl));
+            valid = subst (Valid graph.words (stands_in graph) (arc_in f graph) (zeros (suc p)) (group_at f nodes)) (sym q) (valid_after f p graph.words (stands_in graph) (arc_in f graph) (group_at f nodes) ms laid (potential f adds) (potential f adds') S all full all-is NewIs state.agree state.valid ring chosen x.arc best (view f x) (rw is refl));
             agree = λ d v. agree' (view f x) is d v ∙ ap (λ (l : List Group). add_of graph.words (zeros (suc p)) (group_at f nodes) l d) (sym q);
           }

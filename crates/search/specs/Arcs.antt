@@ -1,6 +1,6 @@
 -- The arcs that a search looks at, of n words: bit h of sets[d - 1] is up where the arc from h to d stands,
 -- and weights[(d - 1) * (n + 1) + h] is its weight. The first words can be held, each at a given head.
-use Rattle.std.specs.Prelude.{◌≡◌, ℕ, suc, ◌+◌, ◌-◌, ◌*◌, ◌^◌, ◌<◌, ◌≤◌, Bool, true, false, cond, ◌&&◌, ◌||◌, List, [], map, length, Some, None, Option, ◌==◌, nat_lt, slice_index, slice_index_or}
+use Rattle.std.specs.Prelude.{◌≡◌, ℕ, suc, ◌+◌, ◌-◌, ◌*◌, ◌^◌, ◌<◌, ◌≤◌, Bool, true, false, cond, ◌&&◌, ◌||◌, ◌⊎◌, List, [], map, length, Some, None, Option, ◌==◌, nat_lt, slice_index, slice_index_or}
 use Rattle.weight.specs.Worth.{Worth, zeros, plus, at_most, AtMost, Within}
 use Rattle.weight.specs.Layers.{Root, root_worth}
 use Rattle.weight.specs.Range.{Range, entry_in}
@@ -49,20 +49,24 @@ abbrev pub SoundIn : {K : Type 0} → (K → Worth) → ℕ → Graph K → Type
 SoundIn f p graph = Sound graph.words (stands_in graph) (arc_in f graph) (zeros (suc p))
 
 -- ---- the best of some heads
--- none of them, or one of them, and no other is worth more
+-- none of them, or one of them, and no other is worth more: of equals the least
 abbrev pub BestHead : (ℕ → Bool) → (ℕ → Worth) → Option ℕ → Type 0
 BestHead heads w None = (h : ℕ) → heads h ≡ false
-BestHead heads w (Some b) = (heads b ≡ true) × ((h : ℕ) → heads h ≡ true → AtMost (w h) (w b))
+BestHead heads w (Some b) = (heads b ≡ true) × ((h : ℕ) → heads h ≡ true → AtMost (w h) (w b)) × ((h : ℕ) → heads h ≡ true → AtMost (w b) (w h) → b ≤ h)
 
 abbrev pub better_head : (ℕ → Worth) → Option ℕ → ℕ → ℕ
 better_head w None h = h
 better_head w (Some b) h = cond (at_most (w h) (w b)) b h
 
 -- ---- the best of some arcs
--- no arc is of the sort, or this one is, and none of the sort is worth more
+-- by their dependents and then by their heads, the arc from a to b comes no later than that from h to d
+abbrev pub NoLater : (a b h d : ℕ) → Type 0
+NoLater a b h d = (b < d) ⊎ ((b ≡ d) × (a ≤ h))
+
+-- no arc is of the sort, or this one is, and none of the sort is worth more: of equals the first
 abbrev pub Best : {K : Type 0} → (K → Worth) → (ℕ → ℕ → Type 0) → (ℕ → ℕ → Worth) → Option (Entering K) → Type 0
 Best f A w None = (h d : ℕ) → A h d → ⊥
-Best f A w (Some e) = A e.from e.to × (root_worth f e.value ≡ w e.from e.to) × ((h d : ℕ) → A h d → AtMost (w h d) (root_worth f e.value))
+Best f A w (Some e) = A e.from e.to × (root_worth f e.value ≡ w e.from e.to) × ((h d : ℕ) → A h d → AtMost (w h d) (root_worth f e.value)) × ((h d : ℕ) → A h d → AtMost (root_worth f e.value) (w h d) → NoLater e.from e.to h d)
 
 abbrev pub better_of : {K : Type 0} → (K → Worth) → Option (Entering K) → Option (Entering K) → Option (Entering K)
 better_of f None b = b

@@ -5,3 +5,4 @@ pub mod Ring
 pub mod Opening
 pub mod Answer
 pub mod Space
+pub mod Choice

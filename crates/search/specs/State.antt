@@ -9,7 +9,7 @@ use Rattle.search.specs.declared.graph.Graph.{Graph}
 use Rattle.word_set.specs.Bits.{in_set}
 use Rattle.weight.specs.Layers.{Root, root_worth}
 use Rattle.search.specs.Arcs.{stands_in, arc_in, potential}
-use Rattle.search.specs.Family.{Group, from_of, add_of, Valid}
+use Rattle.search.specs.Family.{Group, from_of, add_of, OnFirstWay, Valid}
 
 abbrev pub view : {K : Type 0} → (K → Worth) → Node K → Group
 view f node = record { members = node.members; from = node.arc.from; to = node.arc.to; value = root_worth f node.arc.value }
@@ -37,12 +37,12 @@ head_in f records = from_of (base_in f records) (sets_in f records)
 -- where a walk along the heads came to: each word that it met leads to one that was fine, or it met one twice
 abbrev pub Walked : ℕ → (ℕ → ℕ) → ℕ → ℕ → Result ℕ ℕ → Type 0
 Walked n head fine start (Ok seen) = ((x : ℕ) → in_set seen x ≡ true → (k : ℕ) × (in_set fine (up head k x) ≡ true)) × ((in_set fine start || in_set seen start) ≡ true)
-Walked n head fine start (Err w) = Word n w × ((k : ℕ) × (up head (suc k) w ≡ w))
+Walked n head fine start (Err w) = Word n w × ((k : ℕ) × (up head (suc k) w ≡ w)) × ((k : ℕ) × (up head k start ≡ w))
 
--- every word's heads lead to the root, or this word's lead back to it
+-- every word's heads lead to the root, or this word's lead back to it, and it is on the first way that does not lead there
 abbrev pub Found : ℕ → (ℕ → ℕ) → Result ⊤ ℕ → Type 0
 Found n head (Ok _) = (w : ℕ) → Word n w → Reaches head w
-Found n head (Err w) = Word n w × ((k : ℕ) × (up head (suc k) w ≡ w))
+Found n head (Err w) = Word n w × ((k : ℕ) × (up head (suc k) w ≡ w)) × OnFirstWay n head w
 
 -- ---- the search between two merges, with the sets that were made, over a kind with p places
 pub record StateIn {K : Type 0} (f : K → Worth) (p : ℕ) (graph : Graph K) (nodes made : List (Node K)) (potentials : List (Root K)) : Type 0 where

@@ -1,7 +1,8 @@
 // Arcs of one word are set aside while a tree is sought, and are back on every way out.
-ghost use Rattle.std.specs.Prelude.{◌≡◌, ℕ, ◌+◌, ◌<◌, ◌≤◌, length, set as put};
+ghost use Rattle.std.specs.Prelude.{◌≡◌, ℕ, ◌+◌, ◌<◌, ◌≤◌, take, length, set as put};
 ghost use Rattle.search.specs.Answer.{Searched, barring};
 ghost use Rattle.search.specs.Arcs.{allowed, weight_at};
+ghost use Rattle.search.specs.Choice.{Settles};
 ghost use Rattle.search.specs.Space.{RoomIn, SameParts};
 
 use crate::{Working, best_tree};
@@ -52,6 +53,7 @@ fn search_aside<K: Kind + Copy>(
     requires { length held.now < length sets.old }
     ensures kept { sets.new ≡ sets.old }
     ensures told { Searched K.Kind.worth K.Kind.ranges words (barring (allowed sets.old held.now) (length held.now + 1) barred) (weight_at K.Kind.worth words weights.now) (RoomIn words sets.old weights.now working.old) heads.old heads.new result }
+    ensures settled { Settles K.Kind.ranges words (barring (allowed sets.old held.now) (length held.now + 1) barred) (weight_at K.Kind.worth words weights.now) (take words heads.new) result }
     ensures parts { SameParts working.old working.new }
 {
     let at = held.len();
@@ -74,6 +76,7 @@ pub fn best_tree_barring<K: Kind + Copy>(
 ) -> Result<Option<K>, Refusal>
     ensures kept { sets.new ≡ sets.old }
     ensures told { Searched K.Kind.worth K.Kind.ranges words (barring (allowed sets.old held.now) (length held.now + 1) barred) (weight_at K.Kind.worth words weights.now) (RoomIn words sets.old weights.now working.old) heads.old heads.new result }
+    ensures settled { Settles K.Kind.ranges words (barring (allowed sets.old held.now) (length held.now + 1) barred) (weight_at K.Kind.worth words weights.now) (take words heads.new) result }
     ensures parts { SameParts working.old working.new }
 {
     if held.len() >= sets.len() {

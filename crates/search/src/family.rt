@@ -115,7 +115,8 @@ impl<K: Kind + Copy> Family<'_, K> {
         requires word { Word self.now.words word }
         requires laid { Laid self.now.words (base_in K.Kind.worth self.now) (sets_in K.Kind.worth self.now) }
         requires ring { Periodic (head_in K.Kind.worth self.now) word }
-        ensures { Ring self.now.words (base_in K.Kind.worth self.now) (sets_in K.Kind.worth self.now) result }
+        ensures ring { Ring self.now.words (base_in K.Kind.worth self.now) (sets_in K.Kind.worth self.now) result }
+        ensures here { in_set result word ≡ true }
     {
         let mut members = 0;
         let mut at = word;

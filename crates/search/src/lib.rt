@@ -1,10 +1,11 @@
 // The heaviest dependency tree over the arcs that stand, for every kind of weight.
 #![tactic(auto)]
 
-ghost use Rattle.std.specs.Prelude.{◌≡◌, ℕ, ◌+◌, ◌*◌, ◌<◌, ◌≤◌, length, MatchResult};
+ghost use Rattle.std.specs.Prelude.{◌≡◌, ℕ, ◌+◌, ◌*◌, ◌<◌, ◌≤◌, take, length, MatchResult};
 ghost use Rattle.refusal.specs.declared.Refusal.{Refusal};
 ghost use Rattle.search.specs.Answer.{Line, FirstRefusal, Searched};
 ghost use Rattle.search.specs.Arcs.{allowed, weight_at};
+ghost use Rattle.search.specs.Choice.{FoundOnce, LimitedSets, SameSets, Settles};
 ghost use Rattle.search.specs.Space.{RoomIn, SameParts};
 
 use crate::graph::Graph;
@@ -65,6 +66,7 @@ pub fn best_tree<K: Kind + Copy>(
     heads: &mut [u8],
 ) -> Result<Option<K>, Refusal>
     ensures told { Searched K.Kind.worth K.Kind.ranges words (allowed sets.now held.now) (weight_at K.Kind.worth words weights.now) (RoomIn words sets.now weights.now working.old) heads.old heads.new result }
+    ensures settled { Settles K.Kind.ranges words (allowed sets.now held.now) (weight_at K.Kind.worth words weights.now) (take words heads.new) result }
     ensures parts { SameParts working.old working.new }
 {
     check(words, sets, weights, working, heads)?;
@@ -87,3 +89,10 @@ pub fn best_tree<K: Kind + Copy>(
     heads[..words].copy_from_slice(&found[..words]);
     Ok(Some(total.weight()))
 }
+
+// What a search chooses among equals, the arcs alone settle.
+pub fn laws()
+    ensures once { FoundOnce }
+    ensures sets { SameSets }
+    ensures limited { LimitedSets }
+{}

@@ -1,6 +1,6 @@
 // Rings of heads are merged into sets until every word's heads lead to the root.
 ghost use Rattle.std.specs.Prelude.{◌≡◌, ℕ, ◌+◌, ◌<◌, ◌≤◌, [], take, length, MatchOption};
-ghost use Rattle.search.specs.Family.{from_of};
+ghost use Rattle.search.specs.Family.{from_of, OnFirstWay};
 ghost use Rattle.search.specs.Arcs.{stands_in, SoundIn};
 ghost use Rattle.search.specs.Ring.{Periodic};
 ghost use Rattle.search.specs.State.{group_at, sets_of, NoTree, StateIn, SpaceFor, Grown};
@@ -25,6 +25,7 @@ fn merge<K: Kind + Copy>(
     requires made { made + 1 ≤ graph.now.words }
     requires word { Word graph.now.words word }
     requires ring { Periodic (from_of (group_at K.Kind.worth nodes.now) (sets_of K.Kind.worth (take made merges.old))) word }
+    requires first { OnFirstWay graph.now.words (from_of (group_at K.Kind.worth nodes.now) (sets_of K.Kind.worth (take made merges.old))) word }
     ensures room { made + 2 ≤ graph.now.words }
     ensures merged { MatchOption result (NoTree graph.now.words (stands_in graph.now)) (λ _. StateIn K.Kind.worth K.Kind.places graph.now nodes.now (take (made + 1) merges.new) potentials.new) }
 {

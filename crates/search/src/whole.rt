@@ -1,6 +1,7 @@
 // The whole search: each word's best arc, the merges, the opening.
 ghost use Rattle.std.specs.Prelude.{◌≡◌, ℕ, suc, ◌<◌, ◌≤◌, length, MatchOption};
 ghost use Rattle.search.specs.Arcs.{stands_in, arc_in, potential, SoundIn};
+ghost use Rattle.search.specs.Choice.{Chosen};
 ghost use Rattle.search.specs.Family.{Begun};
 ghost use Rattle.search.specs.Opening.{BestOfAll};
 ghost use Rattle.search.specs.State.{group_at, NoTree, SpaceFor};
@@ -56,7 +57,7 @@ pub(crate) fn heaviest<K: Kind + Copy>(
 ) -> Option<[u8; 40]>
     requires space { SpaceFor graph.now.words (length nodes.old) (length merges.old) (length potentials.old) }
     requires sound { SoundIn K.Kind.worth K.Kind.places graph.now }
-    ensures { MatchOption result (NoTree graph.now.words (stands_in graph.now)) (λ heads. BestOfAll graph.now.words (stands_in graph.now) (arc_in K.Kind.worth graph.now) (head_of heads)) }
+    ensures { MatchOption result (NoTree graph.now.words (stands_in graph.now)) (λ heads. BestOfAll graph.now.words (stands_in graph.now) (arc_in K.Kind.worth graph.now) (head_of heads) × Chosen K.Kind.places graph.now.words (stands_in graph.now) (arc_in K.Kind.worth graph.now) (head_of heads)) }
 {
     clear(graph.words, potentials);
     begin(graph, nodes)?;

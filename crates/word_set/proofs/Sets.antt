@@ -20,6 +20,14 @@ by_bit s v b e = ap (λ (x : ℕ). eqb x 1) e
 pub bit_is : (s v : ℕ) → eqb (bit_and (s / 2 ^ v) 1) 1 ≡ in_set s v
 bit_is s v = ap (λ (x : ℕ). eqb x 1) (shr_and_one s v) ∙ sym (by_bit s v (bit_at s v) refl)
 
+-- sets of the same words are the same number
+pub same_set : (a b : ℕ) → ((v : ℕ) → in_set a v ≡ in_set b v) → a ≡ b
+unfolding in_set
+same_set a b same = same_from_bits a b (λ i. by (bit_at a i) (bit_at b i) (bit_at-lt a i) (bit_at-lt b i) (same i))
+  where
+    by : (x y : ℕ) → x < 2 → y < 2 → eqb x 1 ≡ eqb y 1 → x ≡ y
+    by x y p q e = grind (arith, nat_tests)
+
 pub in_set_empty : (v : ℕ) → in_set 0 v ≡ false
 in_set_empty v = by_bit 0 v 0 (bit_at-zero v)
 

@@ -7,7 +7,11 @@ use Rattle.tree.specs.Chains.{head_of}
 use Rattle.arborescence.specs.Search.{tree_worth}
 use Rattle.search.specs.Arcs.{allowed, weight_at, arc_worth}
 use Rattle.search.proofs.Finds.{arc_length, sound, total_is, no_tree, several, the_heaviest, front_head, new_front}
+use Rattle.search.proofs.Found.{found_by}
 use Rattle.search.proofs.best_tree.Goals as goal
+
+suc_same : {a b : ℕ} → suc a ≡ suc b → a ≡ b
+suc_same {a} {b} e = omega (arith, e)
 
 pub heaviest-requires : goal.heaviest-requires
 heaviest-requires g c =
@@ -27,7 +31,7 @@ pub tree_weight-total-requires : goal.tree_weight-total-requires
 tree_weight-total-requires g c =
     let W = g.K.Kind in
     let k = c.in_ok-check.ensures in
-    let tree = c.in-Some.ensures.0 in
+    let tree = c.in-Some.ensures.0.0 in
     let s = sound W.worth W.places W.sized c.args.words c.args.weights.now k.1.weights_in W.ranges W.ranged.1 (allowed c.args.sets.now c.args.held.now) c.if-not-all_entries.ensures in
     record {
       room = omega (arith, k.0.1);
@@ -43,7 +47,7 @@ returns-then-place-clause-told g c =
     let stands : ℕ → ℕ → Bool = allowed c.args.sets.now c.args.held.now in
     let worth : ℕ → ℕ → Worth = weight_at W.worth n c.args.weights.now in
     let head : ℕ → ℕ = head_of c.in-Some.found in
-    let best = c.in-Some.ensures in
+    let best = c.in-Some.ensures.0 in
     let whole = total_is (arc_worth W.worth n c.args.weights.now) head (suc W.places) n k.0.0 (λ w v. arc_length W.worth W.places W.sized n c.args.weights.now k.1.weights_in (head w) w v (best.0.in_line w v)) in
     let total : root_worth W.worth c.tree_weight-total.result ≡ tree_worth (arc_worth W.worth n c.args.weights.now) head n = c.tree_weight-total.ensures ∙ whole in (
       k.0,
@@ -62,7 +66,7 @@ returns-clause-told g c =
     let stands : ℕ → ℕ → Bool = allowed c.args.sets.now c.args.held.now in
     let worth : ℕ → ℕ → Worth = weight_at W.worth n c.args.weights.now in
     let head : ℕ → ℕ = head_of c.in-Some.found in
-    let best = c.in-Some.ensures in
+    let best = c.in-Some.ensures.0 in
     let whole = total_is (arc_worth W.worth n c.args.weights.now) head (suc W.places) n k.0.0 (λ w v. arc_length W.worth W.places W.sized n c.args.weights.now k.1.weights_in (head w) w v (best.0.in_line w v)) in
     let total : root_worth W.worth c.tree_weight-total.result ≡ tree_worth (arc_worth W.worth n c.args.weights.now) head n = c.tree_weight-total.ensures ∙ whole in
     let here : c.place.result ≡ negsuc 0 = omega (arith, ints, c.if-place.false) in
@@ -77,3 +81,14 @@ returns-clause-told g c =
       parts.1,
       λ _. rw parts.0 (the_heaviest n k.0.0 stands worth head best W.worth c.weight.result new long (λ w v. ap (λ (xs : List ℕ). head_of xs w) e ∙ front_head n c.in-Some.found w v) front (c.weight.ensures ∙ ap (drop 1) total)),
     )
+
+pub returns-clause-settled : goal.returns-clause-settled
+returns-clause-settled g c =
+    let W = g.K.Kind in
+    let n : ℕ = c.args.words in
+    let k = c.in_ok-check.ensures in
+    let new = c.copy_from_slice.new.self in
+    let e : new ≡ take n c.in-Some.found = c.copy_from_slice.ensures.after in
+    let long : length new ≡ n = ap length e ∙ length-take-le n c.in-Some.found (omega (arith, k.0.1)) in
+    let parts = new_front n new (drop n c.args.heads.now) long in
+    λ _. found_by W.places n (allowed c.args.sets.now c.args.held.now) (weight_at W.worth n c.args.weights.now) (head_of c.in-Some.found) _ (λ w v. ap (λ (xs : List ℕ). head_of xs w) (parts.0 ∙ e) ∙ front_head n c.in-Some.found w v) (λ h d v le. suc_same (arc_length W.worth W.places W.sized n c.args.weights.now k.1.weights_in h d v le)) c.in-Some.ensures.1

@@ -21,6 +21,7 @@ merge-requires g c =
       made = omega (arith, c.rounds.invariant.1, at.0.0, at.0.1);
       word = at.0;
       ring = at.1;
+      first = at.2;
     }
 
 pub rounds-preserved : goal.rounds-preserved

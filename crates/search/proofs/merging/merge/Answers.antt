@@ -31,29 +31,29 @@ raise-requires g c =
 pub best_into-requires-clause-added : goal.best_into-requires-clause-added
 best_into-requires-clause-added g c =
     let W = g.K.Kind in
-    new_added W.worth W.places c.args.graph.now c.requires.sound c.args.nodes.now (take c.args.made c.args.merges.now) c.args.potentials.now c.requires.state W.sized c.requires.space.potentials_in c.ring_members-members.result c.ring_members-members.ensures (root_worth W.worth c.total-all.result) c.raise.new.potentials c.total-all.ensures c.raise.ensures
+    new_added W.worth W.places c.args.graph.now c.requires.sound c.args.nodes.now (take c.args.made c.args.merges.now) c.args.potentials.now c.requires.state W.sized c.requires.space.potentials_in c.ring_members-members.result c.ring_members-members.ensures.ring (root_worth W.worth c.total-all.result) c.raise.new.potentials c.total-all.ensures c.raise.ensures
 
 pub returns-in_err-arc : goal.returns-in_err-arc
 returns-in_err-arc g c =
     let k = known g.K.Kind.worth g.K.Kind.places c.args.graph.now c.requires.sound c.args.nodes.now (take c.args.made c.args.merges.now) c.args.potentials.now c.requires.state in
-    let room = room_for c.args.made c.args.graph.now.words c.args.merges.now c.requires.made c.requires.space.merges_in (k.room c.ring_members-members.result c.ring_members-members.ensures) in
+    let room = room_for c.args.made c.args.graph.now.words c.args.merges.now c.requires.made c.requires.space.merges_in (k.room c.ring_members-members.result c.ring_members-members.ensures.ring) in
     let e : c.from_residual.result ≡ None = search rules in
-    record { room = room.0; merged = rw e (k.none c.ring_members-members.result c.ring_members-members.ensures c.in_err-arc.ensures) }
+    record { room = room.0; merged = rw e (k.none c.ring_members-members.result c.ring_members-members.ensures.ring c.in_err-arc.ensures) }
 
 pub offset_bounds-merges-made : goal.offset_bounds-merges-made
 offset_bounds-merges-made g c =
     let k = known g.K.Kind.worth g.K.Kind.places c.args.graph.now c.requires.sound c.args.nodes.now (take c.args.made c.args.merges.now) c.args.potentials.now c.requires.state in
-    let room = room_for c.args.made c.args.graph.now.words c.args.merges.now c.requires.made c.requires.space.merges_in (k.room c.ring_members-members.result c.ring_members-members.ensures) in
+    let room = room_for c.args.made c.args.graph.now.words c.args.merges.now c.requires.made c.requires.space.merges_in (k.room c.ring_members-members.result c.ring_members-members.ensures.ring) in
     search (rules, room.1)
 
 pub bounds-merges-made : goal.bounds-merges-made
 bounds-merges-made g c =
     let k = known g.K.Kind.worth g.K.Kind.places c.args.graph.now c.requires.sound c.args.nodes.now (take c.args.made c.args.merges.now) c.args.potentials.now c.requires.state in
-    (room_for c.args.made c.args.graph.now.words c.args.merges.now c.requires.made c.requires.space.merges_in (k.room c.ring_members-members.result c.ring_members-members.ensures)).1
+    (room_for c.args.made c.args.graph.now.words c.args.merges.now c.requires.made c.requires.space.merges_in (k.room c.ring_members-members.result c.ring_members-members.ensures.ring)).1
 
 pub returns : goal.returns
 returns g c =
     let W = g.K.Kind in
     let k = known W.worth W.places c.args.graph.now c.requires.sound c.args.nodes.now (take c.args.made c.args.merges.now) c.args.potentials.now c.requires.state in
-    let room = room_for c.args.made c.args.graph.now.words c.args.merges.now c.requires.made c.requires.space.merges_in (k.room c.ring_members-members.result c.ring_members-members.ensures) in
-    record { room = room.0; merged = state_after W.worth W.places c.args.graph.now c.requires.sound c.args.nodes.now (take c.args.made c.args.merges.now) c.args.potentials.now c.requires.state W.sized c.requires.space.potentials_in c.ring_members-members.result c.ring_members-members.ensures (root_worth W.worth c.total-all.result) c.raise.new.potentials c.total-all.ensures c.raise.ensures _ _ (take_more_set c.args.merges.now c.args.made _ room.1) refl c.in_ok-arc.ensures }
+    let room = room_for c.args.made c.args.graph.now.words c.args.merges.now c.requires.made c.requires.space.merges_in (k.room c.ring_members-members.result c.ring_members-members.ensures.ring) in
+    record { room = room.0; merged = state_after W.worth W.places c.args.graph.now c.requires.sound c.args.nodes.now (take c.args.made c.args.merges.now) c.args.potentials.now c.requires.state W.sized c.requires.space.potentials_in c.ring_members-members.result c.ring_members-members.ensures.ring (root_worth W.worth c.total-all.result) c.raise.new.potentials c.total-all.ensures c.raise.ensures (c.args.word, c.ring_members-members.ensures.here, c.requires.first) _ _ (take_more_set c.args.merges.now c.args.made _ room.1) refl c.in_ok-arc.ensures }

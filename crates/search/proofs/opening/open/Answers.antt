@@ -7,7 +7,7 @@ use Rattle.word_set.proofs.Sets.{in_set_empty}
 use Rattle.search.specs.Family.{Group}
 use Rattle.search.specs.State.{view, base_in, sets_in}
 use Rattle.search.proofs.Records.{newest}
-use Rattle.search.proofs.Heads.{Left, left_start, left_done, left_own, left_end}
+use Rattle.search.proofs.Heads.{Left, left_start, left_done, left_own, left_end, left_heads}
 use Rattle.search.proofs.opening.open.Goals as goal
 
 pub loop-node-init : goal.loop-node-init
@@ -53,5 +53,9 @@ returns g c =
     let f = g.K.Kind.worth in
     let family = c.args.family.now in
     let e : iter_rest (rev_source c.loop-node.node-iterator) ≡ [] = nil_from_length _ c.in-None.ensures.steps.0 in
-    left_end g.K.Kind.places family.words (base_in f family) (sets_in f family) c.loop-node.done (head_of c.loop-node.heads)
-    (subst (λ nodes. Left g.K.Kind.places family.words (base_in f family) (sets_in f family) (map (view f) (reverse nodes)) c.loop-node.done (head_of c.loop-node.heads)) e c.loop-node.invariant)
+    let end =
+    (subst (λ nodes. Left g.K.Kind.places family.words (base_in f family) (sets_in f family) (map (view f) (reverse nodes)) c.loop-node.done (head_of c.loop-node.heads)) e c.loop-node.invariant) in
+    record {
+      best = left_end g.K.Kind.places family.words (base_in f family) (sets_in f family) c.loop-node.done (head_of c.loop-node.heads) end;
+      order = left_heads g.K.Kind.places family.words (base_in f family) (sets_in f family) c.loop-node.done (head_of c.loop-node.heads) end;
+    }

@@ -1,6 +1,7 @@
 use Rattle.std.proofs.Common.{suc, arith}
 use Rattle.weight.specs.Worth.{zeros}
 use Rattle.search.specs.Arcs.{stands_in, arc_in}
+use Rattle.search.specs.Opening.{Ended}
 use Rattle.search.specs.State.{group_at}
 use Rattle.search.proofs.Heads.{lined}
 use Rattle.search.proofs.whole.heaviest.Goals as goal
@@ -24,4 +25,5 @@ pub returns : goal.returns
 returns g c =
     let graph = c.args.graph.now in
     let r = c.in_ok-made.ensures in
-    c.open.ensures (stands_in graph) (arc_in g.K.Kind.worth graph) (record { sound = c.requires.sound; valid = r.0.valid; reach = r.1 })
+    let ended : Ended g.K.Kind.places graph.words (stands_in graph) (arc_in g.K.Kind.worth graph) _ _ = record { sound = c.requires.sound; valid = r.0.valid; reach = r.1 } in
+    (c.open.ensures.best (stands_in graph) (arc_in g.K.Kind.worth graph) ended, record { base = _; sets = _; ended = ended; heads = c.open.ensures.order })

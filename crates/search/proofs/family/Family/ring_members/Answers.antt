@@ -3,7 +3,7 @@ use Rattle.std.proofs.Common.{sym, ap, ◌∙◌}
 use Rattle.search.specs.Family.{Group}
 use Rattle.search.specs.State.{base_in, sets_in}
 use Rattle.search.proofs.Records.{entry_from}
-use Rattle.search.proofs.Rings.{going_start, going_more, going_less, ring_done}
+use Rattle.search.proofs.Rings.{going_start, going_more, going_less, ring_done, ring_here}
 use Rattle.search.proofs.family.Family.ring_members.Goals as goal
 
 pub steps-init : goal.steps-init
@@ -28,4 +28,7 @@ steps-preserved g c =
 pub returns : goal.returns
 returns g c =
     let f = g.K.Kind.worth in
-    ring_done c.args.self.now.words (base_in f c.args.self.now) (sets_in f c.args.self.now) c.requires.laid c.args.word c.steps.at c.steps.members c.requires.ring c.requires.word c.steps.invariant (sym c.steps-test.ensures)
+    record {
+      ring = ring_done c.args.self.now.words (base_in f c.args.self.now) (sets_in f c.args.self.now) c.requires.laid c.args.word c.steps.at c.steps.members c.requires.ring c.requires.word c.steps.invariant (sym c.steps-test.ensures);
+      here = ring_here c.args.self.now.words (base_in f c.args.self.now) (sets_in f c.args.self.now) c.requires.laid c.args.word c.steps.at c.steps.members c.steps.invariant (sym c.steps-test.ensures);
+    }

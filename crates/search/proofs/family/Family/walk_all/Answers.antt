@@ -1,4 +1,4 @@
-use Rattle.std.proofs.Common.{◌∙◌, arith}
+use Rattle.std.proofs.Common.{◌≡◌, Err, ◌∙◌, arith, rules}
 use Rattle.std.proofs.lemmas.Bool.{or_left}
 use Rattle.search.proofs.Records.{fine_more, fine_start, starts_more}
 use Rattle.word_set.specs.Bits.{in_set}
@@ -21,3 +21,9 @@ loop-start-preserved g c =
 
 pub returns : goal.returns
 returns g c = λ w v. c.loop-start.invariant.0 w (c.loop-start.invariant.2 w v.0 (omega arith))
+
+pub returns-in_err-walk : goal.returns-in_err-walk
+returns-in_err-walk g c =
+    let w = c.in_err-walk.ensures in
+    let e : c.from_residual.result ≡ Err c.in_err-walk.field-0.0 = search rules in
+    rw e (w.0, w.1, record { start = c.loop-start.start; word = (c.loop-start.auto.start, omega arith); earlier = λ v one lt. c.loop-start.invariant.0 v (c.loop-start.invariant.2 v one lt); way = w.2 })

@@ -9,7 +9,7 @@ loop-from-preserved g c =
     let w : ℕ → Worth = λ h. weight_in g.K.Kind.worth c.args.self.now h c.args.to in
     let next = c.in-Some.ensures.steps in
     subst (λ (b : ℕ). Seen w c.args.heads c.next.new.self.left (Some b)) (sym c.better_head.ensures)
-    (seen_more w c.args.heads c.loop-from.from-iterator.left c.next.new.self.left c.loop-from.best c.in-Some.from next.others next.inside c.loop-from.invariant)
+    (seen_more w c.args.heads c.loop-from.from-iterator.left c.next.new.self.left c.loop-from.best c.in-Some.from next.others next.inside next.lowest c.loop-from.invariant)
 
 pub returns : goal.returns
 returns g c =
