@@ -61,7 +61,7 @@ module _ (n : ℕ) (Tree : List ℕ → Type 0) (value : List ℕ → Worth) {X 
   abbrev Over : List X → List ℕ → ℕ
   Over cs t = over n Tree value view cs t
 
-  own : (c : Cell) → BestOfCell n Tree value c → holds c.heads c ≡ true
+  pub own : (c : Cell) → BestOfCell n Tree value c → holds c.heads c ≡ true
   own c b =
       let s = sized c.heads b.tree in
       (in_cell_decides n c.heads c.heads s s c.from c.banned (omega (arith, b.place))).1 (record { before = λ w l. refl; free = b.free })

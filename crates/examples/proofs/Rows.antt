@@ -1,11 +1,11 @@
 -- A row is right where a test of its trees passes, which is computed.
-use Rattle.std.proofs.Common.{◌≡◌, ℕ, suc, Bool, true, false, not, ◌&&◌, ◌||◌, eqb, ltb, ◌⊎◌, List, [], ◌∷◌, length, None, Err, Decides, refl, inl, inr}
+use Rattle.std.proofs.Common.{◌≡◌, ℕ, suc, Bool, true, false, not, ◌&&◌, ◌||◌, eqb, ltb, ◌⊎◌, List, [], ◌∷◌, length, None, Decides, sym, refl, ap, ◌∙◌, subst, inl, inr}
 use Rattle.cells.proofs.Counts.{at_most_test}
 use Rattle.cells.specs.Accounts.{Among}
 use Rattle.examples.proofs.Trees.{tree_test, every_tree, decides_tree, at_tree}
 use Rattle.examples.specs.Lines.{Line, Told, Ranked, arcs_of, steps_check, FileOf, Row, scores, costs, marks, score_file, no_tree, Right}
 use Rattle.file.specs.Formats.{Format, score_format, cost_format, mark_format}
-use Rattle.ranking.specs.Takes.{Tells, HandedOut, Untaken}
+use Rattle.ranking.specs.Takes.{HandedOut, NoneHanded}
 use Rattle.ranking.specs.Trees.{stands, TreeOf, tree_worth}
 use Rattle.refusal.specs.declared.Refusal.TheVariants.{WordCount, ShortMemory, NoDependent, HeadAbove, SelfLoop, NoEntry, AbsentArc, NoTree, NoMore, Fifty, ShortSpace, NotATree}
 use Rattle.refusal.specs.declared.Refusal.{Refusal}
@@ -15,10 +15,10 @@ use Rattle.std.proofs.lemmas.Bool.{and_parts, or_cases, not-true, ltb-true, eqb-
 use Rattle.std.proofs.lemmas.Bool.Decides.{Decides-or, not_from_Decides}
 use Rattle.std.specs.Str.{bytes_eq}
 use Rattle.tree.specs.Trees.{LineTree}
-use Rattle.weight.proofs.Worths.{at_most_antisym, outweighs_not}
+use Rattle.weight.proofs.Worths.{at_most_refl, at_most_antisym, outweighs_not, outweighs_when, outweighs_over}
 use Rattle.weight.specs.Layers.{mark_worth}
 use Rattle.weight.specs.Numbers.{score_worth, cost_worth}
-use Rattle.weight.specs.Worth.{Worth, at_most, Outweighs}
+use Rattle.weight.specs.Worth.{Worth, at_most, AtMost, Outweighs}
 
 abbrev pub among : List ℕ → List (List ℕ) → Bool
 among t [] = false
@@ -41,13 +41,25 @@ module _ {K : Type 0} (worth : K → Worth) (n : ℕ) (arcs : Arcs K) where
   abbrev pub is_tree : List ℕ → Bool
   is_tree t = tree_test n (stands arcs) t
 
-  -- taken, or at most so heavy
-  abbrev pub outdone : List (List ℕ) → Worth → List ℕ → Bool
-  outdone ts weight t = among t ts || at_most (tree_worth worth arcs t) weight
+  -- taken, or the tree itself, or lighter
+  abbrev pub outdone : List (List ℕ) → List ℕ → Worth → List ℕ → Bool
+  outdone ts heads weight t = among t ts || (bytes_eq t heads || not (at_most weight (tree_worth worth arcs t)))
 
   abbrev pub hands_out : List (List ℕ) → List ℕ → K → Bool
   hands_out ts heads weight =
-      ltb (length ts) 50 && (is_tree heads && (not (among heads ts) && (same_worth (worth weight) (tree_worth worth arcs heads) && every_tree n (stands arcs) (outdone ts (worth weight)))))
+      ltb (length ts) 50 && (is_tree heads && (not (among heads ts) && (same_worth (worth weight) (tree_worth worth arcs heads) && every_tree n (stands arcs) (outdone ts heads (worth weight)))))
+
+  -- an untaken tree is this one, or lighter
+  others : (ts : List (List ℕ)) (heads : List ℕ) (weight : K) → every_tree n (stands arcs) (outdone ts heads (worth weight)) ≡ true → (other : List ℕ) → TreeOf n arcs other → (Among other ts → ⊥) → (other ≡ heads) ⊎ Outweighs (worth weight) (tree_worth worth arcs other)
+  others ts heads weight e other is new = by (or_cases (among other ts) _ (at_tree n (stands arcs) (outdone ts heads (worth weight)) e other is))
+    where
+      itself_or_lighter : (bytes_eq other heads ≡ true) ⊎ (not (at_most (worth weight) (tree_worth worth arcs other)) ≡ true) → (other ≡ heads) ⊎ Outweighs (worth weight) (tree_worth worth arcs other)
+      itself_or_lighter (inl q) = inl ((bytes_eq-Decides other heads).0 q)
+      itself_or_lighter (inr q) = inr (outweighs_when (worth weight) (tree_worth worth arcs other) (not-true _ q))
+
+      by : (among other ts ≡ true) ⊎ ((bytes_eq other heads || not (at_most (worth weight) (tree_worth worth arcs other))) ≡ true) → (other ≡ heads) ⊎ Outweighs (worth weight) (tree_worth worth arcs other)
+      by (inl m) = absurd (new ((decides_among other ts).0 m))
+      by (inr q) = itself_or_lighter (or_cases (bytes_eq other heads) _ q)
 
   handed_out : (ts : List (List ℕ)) (heads : List ℕ) (weight : K) → hands_out ts heads weight ≡ true → HandedOut worth n arcs ts heads weight (suc (length ts))
   handed_out ts heads weight e =
@@ -61,12 +73,27 @@ module _ {K : Type 0} (worth : K → Worth) (n : ℕ) (arcs : Arcs K) where
         untaken = not_from_Decides (among heads ts) (decides_among heads ts) (not-true (among heads ts) c.0);
         weighs = worth_same (worth weight) (tree_worth worth arcs heads) d.0;
         counts = refl;
-        none_heavier = λ other u o. by other u o (or_cases (among other ts) (at_most (tree_worth worth arcs other) (worth weight)) (at_tree n (stands arcs) (outdone ts (worth weight)) d.1 other u.0));
+        none_heavier = λ other u o. outweighs_not (tree_worth worth arcs other) (worth weight) o (under other (others ts heads weight d.1 other u.0 u.1) (worth_same (worth weight) (tree_worth worth arcs heads) d.0));
       }
     where
-      by : (other : List ℕ) → Untaken worth n arcs ts other → Outweighs (tree_worth worth arcs other) (worth weight) → (among other ts ≡ true) ⊎ (at_most (tree_worth worth arcs other) (worth weight) ≡ true) → ⊥
-      by other u o (inl m) = u.1 ((decides_among other ts).0 m)
-      by other u o (inr m) = outweighs_not (tree_worth worth arcs other) (worth weight) o (at_most_test (tree_worth worth arcs other) (worth weight) m)
+      under : (other : List ℕ) → (other ≡ heads) ⊎ Outweighs (worth weight) (tree_worth worth arcs other) → worth weight ≡ tree_worth worth arcs heads → AtMost (tree_worth worth arcs other) (worth weight)
+      under other (inl e) q = subst (λ (w : Worth). AtMost (tree_worth worth arcs other) w) (ap (tree_worth worth arcs) e ∙ sym q) (at_most_refl (tree_worth worth arcs other))
+      under other (inr o) q = outweighs_over (worth weight) (tree_worth worth arcs other) o
+
+  -- and no other can be
+  only_one : (ts : List (List ℕ)) (heads : List ℕ) (weight : K) → hands_out ts heads weight ≡ true → (other : List ℕ) (k : K) (count : ℕ) → HandedOut worth n arcs ts other k count → other ≡ heads
+  only_one ts heads weight e other k count h = by (others ts heads weight (parts e) other h.tree h.untaken) (handed_out ts heads weight e)
+    where
+      parts : hands_out ts heads weight ≡ true → every_tree n (stands arcs) (outdone ts heads (worth weight)) ≡ true
+      parts e =
+          let a = and_parts (ltb (length ts) 50) _ e in
+          let b = and_parts (is_tree heads) _ a.1 in
+          let c = and_parts (not (among heads ts)) _ b.1 in
+          (and_parts (same_worth (worth weight) (tree_worth worth arcs heads)) _ c.1).1
+
+      by : (other ≡ heads) ⊎ Outweighs (worth weight) (tree_worth worth arcs other) → HandedOut worth n arcs ts heads weight (suc (length ts)) → other ≡ heads
+      by (inl q) g = q
+      by (inr o) g = absurd (h.none_heavier heads (g.tree, g.untaken) (subst (Outweighs (tree_worth worth arcs heads)) (sym h.weighs) (subst (λ (w : Worth). Outweighs w (tree_worth worth arcs other)) g.weighs o)))
 
   abbrev pub first_is_tree : List (List ℕ) → Bool
   first_is_tree [] = false
@@ -90,7 +117,7 @@ module _ {K : Type 0} (worth : K → Worth) (n : ℕ) (arcs : Arcs K) where
   a_tree [] e = absurd (false≢true e)
   a_tree (t ∷ ts) e = (t, (decides_tree n (stands arcs) t).0 e)
 
-  refused : (ts : List (List ℕ)) (last : Refusal) → refuses ts last ≡ true → Tells worth n arcs ts [] (Err last)
+  refused : (ts : List (List ℕ)) (last : Refusal) → refuses ts last ≡ true → NoneHanded worth n arcs ts last
   refused ts Fifty e = eqb-true (length ts) 50 e
   refused ts NoTree e =
       let a = and_parts (ltb (length ts) 50) _ e in
@@ -117,7 +144,7 @@ module _ {K : Type 0} (worth : K → Worth) (n : ℕ) (arcs : Arcs K) where
   told ts [] last e = refused ts last e
   told ts (t ∷ trees) last e =
       let a = and_parts (hands_out ts t.1 t.0) _ e in
-      (handed_out ts t.1 t.0 a.0, told (t.1 ∷ ts) trees last a.1)
+      (handed_out ts t.1 t.0 a.0, only_one ts t.1 t.0 a.0, told (t.1 ∷ ts) trees last a.1)
 
 -- what is computed of a line
 abbrev pub Passes : {K : Type 0} → Format K → (K → Worth) → Line K → Type 0

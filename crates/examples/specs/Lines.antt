@@ -3,7 +3,7 @@ use Rattle.std.specs.Prelude.{◌≡◌, ℕ, suc, ◌+◌, ◌*◌, List, [], �
 use Rattle.file.specs.Formats.{Format, score_format, cost_format, mark_format}
 use Rattle.file.specs.Reading.{frame_words, record_count}
 use Rattle.file.specs.Records.{put_records, records_check}
-use Rattle.ranking.specs.Takes.{Tells}
+use Rattle.ranking.specs.Takes.{HandedOut, NoneHanded}
 use Rattle.refusal.specs.declared.Refusal.TheVariants.{NotATree}
 use Rattle.refusal.specs.declared.Refusal.{Refusal}
 use Rattle.sheet.specs.Arcs.{Arcs, no_arcs, with_arc}
@@ -38,11 +38,13 @@ abbrev pub steps_check : {K : Type 0} → Format K → ℕ → Arcs K → List (
 steps_check f n arcs [] = None
 steps_check f n arcs (step ∷ steps) = or_else (step_check f n arcs step) (steps_check f n (after_step step arcs) steps)
 
--- the takes hand out these trees with their weights one after the other, and then refuse; `taken` were taken before, the latest first
+-- the takes hand out just these trees with their weights one after the other, and then refuse; `taken` were taken before, the latest first
 abbrev pub Told : {K : Type 0} → (K → Worth) → ℕ → Arcs K → List (List ℕ) → List (K × List ℕ) → Refusal → Type 0
-Told worth n arcs taken [] last = Tells worth n arcs taken [] (Err last)
-Told worth n arcs taken (t ∷ trees) last =
-    Tells worth n arcs taken t.1 (Ok (record { weight = t.0; count = suc (length taken) })) × Told worth n arcs (t.1 ∷ taken) trees last
+Told worth n arcs taken [] last = NoneHanded worth n arcs taken last
+Told {K} worth n arcs taken (t ∷ trees) last =
+    HandedOut worth n arcs taken t.1 t.0 (suc (length taken))
+    × ((heads : List ℕ) (weight : K) (count : ℕ) → HandedOut worth n arcs taken heads weight count → heads ≡ t.1)
+    × Told worth n arcs (t.1 ∷ taken) trees last
 
 -- the steps on an empty sheet of so many words, each tree in turn with its weight, and the refusal behind them
 pub record Line (K : Type 0) : Type 0 where

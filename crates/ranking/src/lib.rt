@@ -4,6 +4,7 @@
 ghost use Rattle.std.specs.Prelude.{◌≡◌, ℕ, suc, ◌<◌, ◌≤◌, List, [], length, IfOk};
 ghost use Rattle.ranking.specs.Calls.{take_check, Took};
 ghost use Rattle.ranking.specs.Memory.{Memory, memory_of, HoldsArcs, StandsFor};
+ghost use Rattle.ranking.specs.Order.{OneOrder};
 ghost use Rattle.ranking.specs.Steps.{NextTree, RoomFor};
 ghost use Rattle.ranking.specs.Takes.{FirstIsHeaviest, Settled};
 ghost use Rattle.search.specs.Space.{RoomIn, SameParts};
@@ -175,9 +176,10 @@ pub fn take<K: Opens + Copy>(
     })
 }
 
-// What follows from what a take tells, for every kind: the first tree is a heaviest, and an answer is settled but for which of
-// equal trees comes first.
+// What follows from what a take tells, for every kind: the first tree is a heaviest; an answer is settled by the worths of the arcs that
+// stand and by the trees taken; and there is one order in which a sheet's trees come, which those worths settle.
 pub fn laws<K: Kind>()
     ensures first { (n : ℕ) (arcs : Arcs K) → FirstIsHeaviest K.Kind.worth n arcs }
-    ensures settled { (n : ℕ) (arcs : Arcs K) → Settled K.Kind.worth n arcs }
+    ensures settled { (n : ℕ) → Settled K.Kind.worth n }
+    ensures order { (n : ℕ) → OneOrder K.Kind.worth n }
 {}

@@ -1,8 +1,9 @@
 -- The law over runs. A run is a list of turns, the newest first; a turn is a call with its answer. Which arcs stand and which trees
 -- were taken follow from the turns before, and they settle what a call answers.
-use Rattle.std.specs.Prelude.{◌≡◌, ℕ, ◌-◌, ◌<◌, ◌≤◌, Bool, true, false, cond, not, List, [], ◌∷◌, length, take, drop, replicate, is_some, Some, None, Option}
+use Rattle.std.specs.Prelude.{◌≡◌, ℕ, ◌-◌, ◌<◌, ◌≤◌, Bool, true, false, cond, not, List, [], ◌∷◌, length, take, drop, replicate, is_some, Some, None, Ok, Option}
 use Rattle.cells.specs.Accounts.{Among}
-use Rattle.ranking.specs.Takes.{HandedOut, NoneHanded}
+use Rattle.ranking.specs.Order.{InOrder}
+use Rattle.ranking.specs.Takes.{NoneHanded, Tells}
 use Rattle.ranking.specs.Trees.{TreeOf, tree_worth}
 use Rattle.refusal.specs.declared.Refusal.TheVariants.{NoEntry, AbsentArc, ShortSpace}
 use Rattle.refusal.specs.declared.Refusal.{Refusal}
@@ -71,7 +72,7 @@ module _ {K : Type 0} (worth : K → Worth) (ranges : List Range) (n : ℕ) wher
 
   -- what a take answers with space enough; behind the heads of the line the bytes are 0
   abbrev pub TakeTells : Arcs K → List (List ℕ) → Answer K → Type 0
-  TakeTells arcs ts (Handed heads t) = HandedOut worth n arcs ts (take n heads) t.weight t.count × (drop n heads ≡ replicate (40 - n) 0)
+  TakeTells arcs ts (Handed heads t) = Tells worth n arcs ts (take n heads) (Ok t) × (drop n heads ≡ replicate (40 - n) 0)
   TakeTells arcs ts (Refused e) = NoneHanded worth n arcs ts e
   TakeTells arcs ts _ = ⊥
 
@@ -116,6 +117,8 @@ pub record TrueRanking {K : Type 0} (worth : K → Worth) (n : ℕ) (arcs : Arcs
   pub falling : Falling worth arcs ts
   -- and none that was skipped outweighs one of them
   pub none_skipped : (t : List ℕ) → TreeOf n arcs t → (Among t ts → ⊥) → NotAbove worth arcs t ts
+  -- they are the first in the one order of the sheet's trees
+  pub order : InOrder worth n arcs ts
 
 abbrev pub RanksTruly : {K : Type 0} → (K → Worth) → List Range → Type 0
 RanksTruly {K} worth ranges = (n : ℕ) (run : Run K) → Keeps worth ranges n run → ranks run ≡ true → TrueRanking worth n (standing run) (taken n run)

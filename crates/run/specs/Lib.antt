@@ -1,3 +1,4 @@
 pub mod Law
 pub mod Loans
 pub mod Steps
+pub mod Alike

@@ -3,6 +3,7 @@
 
 ghost use Rattle.std.specs.Prelude.{◌≡◌, List, length, IfOk};
 ghost use Rattle.ranking.specs.Calls.{lengths_of, Took};
+ghost use Rattle.run.specs.Alike.{CallsSettle, RunsAlike};
 ghost use Rattle.run.specs.Law.{RanksTruly};
 ghost use Rattle.run.specs.Loans.{lists, lists_of, SameLoans};
 ghost use Rattle.run.specs.Steps.{Ran, Stepped, run_check, told_by};
@@ -266,7 +267,11 @@ pub fn run<K: Opens + Copy>(
     Ok(())
 }
 
-// What follows from the law, for every kind: a ranking hands out no tree twice, skips none, and its weights never rise.
+// What follows from the law, for every kind: a ranking hands out no tree twice, skips none, and its weights never rise; the same calls
+// are answered alike after runs that have come to the same arcs, whatever calls those were; and so any two runs of the same calls
+// are answered alike, whatever memory they were lent.
 pub fn laws<K: Opens>()
-    ensures { RanksTruly K.Kind.worth K.Kind.ranges }
+    ensures truly { RanksTruly K.Kind.worth K.Kind.ranges }
+    ensures settled { CallsSettle K.Kind.worth K.Kind.ranges }
+    ensures alike { RunsAlike K.Kind.worth K.Kind.ranges }
 {}

@@ -12,6 +12,7 @@ ghost use Rattle.weight.specs.Range.{entry_in};
 use queue::Ranked;
 use refusal::Refusal;
 use search::Node;
+use std::cmp::Ordering;
 use std::marker::PhantomData;
 use weight::{Kind, Opens, Root};
 use word_set::{either, holds, only, without};
@@ -146,14 +147,17 @@ impl<K> Candidate<K> {
     }
 }
 
-// The heavier tree is handed out first.
+// The heavier tree is handed out first, of equals the one whose heads come first in dictionary order.
 impl<K: Kind> Ranked for Candidate<K> {
     ghost above = { λ a b. outranking K.Kind.worth a b };
 
     ghost ranks = { Orders.ranks K.Kind.worth };
 
     fn outranks(&self, other: &Candidate<K>) -> bool {
-        !self.weight.at_most(&other.weight)
+        match self.weight.compare(&other.weight) {
+            Ordering::Equal => other.heads.cmp(&self.heads).is_gt(),
+            order => order.is_gt(),
+        }
     }
 }
 

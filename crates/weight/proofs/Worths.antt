@@ -1,6 +1,8 @@
 -- The laws of worths: an ordered abelian group, and the bounds of its sums
 use Rattle.std.proofs.Common.{◌≡◌, ℕ, zero, suc, ◌+◌, ◌<◌, ◌≤◌, Bool, true, false, cond, not, T, ◌⊎◌, [], ◌∷◌, length, get_or, ℤ, pos, ◌+ℤ◌, ◌-ℤ◌, neg_ℤ, ◌<ℤ◌, Ordering, Less, Equal, Greater, sym, refl, ap, ◌∙◌, subst, inl, inr, arith}
 use lib.IntN.{+ℤ_comm, +ℤ_assoc}
+use Rattle.std.specs.Cmp.{IsTotalOrder, both_ways}
+use Rattle.std.specs.Ordering.{ordering_reverse}
 use Rattle.std.proofs.lemmas.Int.{ints}
 use Rattle.weight.specs.Worth.{Worth, zeros, plus, minus, leads, at_most, AtMost, Outweighs, order, Compared, Within, WorthLaws, OrderLaws, BoundLaws}
 
@@ -313,6 +315,49 @@ compared_only a b Equal e c =
     let q : at_most b a ≡ true = passed (at_most b a) (rw c (reflT b)) in
     rw (p, q)
 compared_only a b Greater e c = let p = outweighs_test a b c in rw p
+
+-- ---- the order as a whole
+abbrev by_tests : Bool → Bool → Ordering
+by_tests p q = cond p (cond q Equal Less) Greater
+
+turned : (p q : Bool) → (p ≡ true) ⊎ (q ≡ true) → by_tests p q ≡ ordering_reverse (by_tests q p)
+turned true true o = refl
+turned true false o = refl
+turned false true o = refl
+turned false false (inl e) = cc
+turned false false (inr e) = cc
+
+less : (p q : Bool) → by_tests p q ≡ Less → (p ≡ true) × (q ≡ false)
+less true true e = cc
+less true false e = (refl, refl)
+less false q e = cc
+
+is_less : (p q : Bool) → p ≡ true → (q ≡ true → ⊥) → by_tests p q ≡ Less
+is_less true true e n = absurd (n refl)
+is_less true false e n = refl
+is_less false q e n = cc
+
+equal : (p q : Bool) → by_tests p q ≡ Equal → (p ≡ true) × (q ≡ true)
+equal true true e = (refl, refl)
+equal true false e = cc
+equal false q e = cc
+
+through : (a b c : Worth) → at_most a b ≡ true → at_most b c ≡ true → at_most a c ≡ true
+through a b c h k = passed (at_most a c) (transT a b c (rw h tt) (rw k tt))
+
+pub order_total : IsTotalOrder order
+order_total = record {
+  antisymm = λ a b. turned (at_most a b) (at_most b a) (elim (totalT a b) [ inl h ↦ inl (passed (at_most a b) h) | inr h ↦ inr (passed (at_most b a) h) ]);
+  trans = λ a b c h k.
+      let x = less (at_most a b) (at_most b a) h in
+      let y = less (at_most b c) (at_most c b) k in
+      is_less (at_most a c) (at_most c a) (through a b c x.0 y.0) (λ t. let u = through c a b t x.0 in cc);
+  congr = λ a b c h.
+      let x = equal (at_most a b) (at_most b a) h in
+      let p : at_most a c ≡ at_most b c = both_ways (at_most a c) (at_most b c) (through b a c x.1) (through a b c x.0) in
+      let q : at_most c a ≡ at_most c b = both_ways (at_most c a) (at_most c b) (λ t. through c a b t x.0) (λ t. through c b a t x.1) in
+      rw (p, q) refl;
+}
 
 -- ---- all of them
 pub worth_laws : WorthLaws

@@ -1,5 +1,12 @@
+use Rattle.run.proofs.Alike.{calls_settle, runs_alike}
 use Rattle.run.proofs.Truly.{truly}
 use Rattle.run.proofs.laws.Goals as goal
 
-pub returns : goal.returns
-returns g c = λ n run. truly g.K.Kind.worth g.K.Kind.ranges n run
+pub returns-clause-truly : goal.returns-clause-truly
+returns-clause-truly g c = truly g.K.Kind.worth g.K.Kind.ranges
+
+pub returns-clause-settled : goal.returns-clause-settled
+returns-clause-settled g c = calls_settle g.K.Kind.worth g.K.Kind.ranges
+
+pub returns-clause-alike : goal.returns-clause-alike
+returns-clause-alike g c = runs_alike g.K.Kind.worth g.K.Kind.ranges
