@@ -1,12 +1,35 @@
 -- What was found, over other words for the same arcs
-use Rattle.std.proofs.Common.{◌≡◌, ℕ, ◌≤◌, Bool, List, length, Some, None, Ok, Err, Option, Result, sym, refl, ◌∙◌}
+use Rattle.std.proofs.Common.{◌≡◌, ℕ, suc, ◌+◌, ◌<◌, ◌≤◌, Bool, true, List, [], ◌∷◌, length, get_or, Some, None, Ok, Err, Option, Result, sym, refl, ap, ◌∙◌, subst, arith}
 use Rattle.refusal.specs.declared.Refusal.{Refusal}
-use Rattle.weight.specs.Range.{Range}
-use Rattle.weight.specs.Worth.{Worth}
-use Rattle.arborescence.specs.Heads.{rooted}
+use Rattle.weight.specs.Range.{Range, entry_in}
+use Rattle.weight.specs.Worth.{Worth, plus}
+use Rattle.arborescence.specs.Heads.{TreeOver, worth_from, rooted}
 use Rattle.tree.specs.Chains.{Word, head_of}
-use Rattle.search.specs.Answer.{Searched}
-use Rattle.search.specs.Choice.{Chosen, Finds, Settles}
+use Rattle.search.proofs.Choosing.{found_once}
+use Rattle.search.specs.Answer.{Told, Searched}
+use Rattle.search.specs.Arcs.{Entries}
+use Rattle.search.specs.Choice.{Chosen, SameArcs, Finds, Settles, SearchedOnce}
+
+-- trees over arcs that agree on the line
+pub over_like : (n : ℕ) (a b : ℕ → ℕ → Bool) → ((h d : ℕ) → Word n d → h ≤ n → a h d ≡ b h d) → (t : List ℕ) → TreeOver n a t → TreeOver n b t
+over_like n a b same t over = record { shape = over.shape; standing = λ w v. sym (same (head_of t w) w v (over.shape.shape.in_line w v)) ∙ over.standing w v }
+
+from_like : (f g : ℕ → ℕ → Worth) (w : ℕ) (hs : List ℕ) → ((i : ℕ) → i < length hs → f (get_or hs i 0) (w + i) ≡ g (get_or hs i 0) (w + i)) → worth_from f w hs ≡ worth_from g w hs
+from_like f g w [] same = refl
+from_like f g w (h ∷ hs) same =
+    let here : f h w ≡ g h w = let e : w + 0 ≡ w = omega arith in subst (λ (v : ℕ). f h v ≡ g h v) e (same 0 (omega arith)) in
+    let rest : worth_from f (suc w) hs ≡ worth_from g (suc w) hs =
+    from_like f g (suc w) hs (λ i l. let e : w + suc i ≡ suc w + i = omega arith in subst (λ (v : ℕ). f (get_or hs i 0) v ≡ g (get_or hs i 0) v) e (same (suc i) (omega arith))) in
+    ap (λ (x : Worth). plus x (worth_from f (suc w) hs)) here ∙ ap (plus (g h w)) rest
+
+-- a tree is worth the same by weights that agree on its arcs
+pub worth_like : (n : ℕ) (s : ℕ → ℕ → Bool) (f g : ℕ → ℕ → Worth) (t : List ℕ) → TreeOver n s t → ((h d : ℕ) → Word n d → h ≤ n → s h d ≡ true → f h d ≡ g h d) → worth_from f 1 t ≡ worth_from g 1 t
+worth_like n s f g t over same =
+    let sized = over.shape.shape.sized in
+    from_like f g 1 t (λ i l.
+    let v : Word n (suc i) = (omega arith, omega arith) in
+    let e : suc i ≡ 1 + i = omega arith in
+    subst (λ (w : ℕ). f (get_or t i 0) w ≡ g (get_or t i 0) w) e (same (head_of t (suc i)) (suc i) v (over.shape.shape.in_line (suc i) v) (over.standing (suc i) v)))
 
 pub found_by : (p n : ℕ) (stands : ℕ → ℕ → Bool) (worth : ℕ → ℕ → Worth) (head : ℕ → ℕ) (heads : List ℕ) → ((w : ℕ) → Word n w → head_of heads w ≡ head w) → ((h d : ℕ) → Word n d → h ≤ n → length (worth h d) ≡ p) → Chosen p n stands (rooted worth) head → Finds n stands worth heads
 found_by p n stands worth head heads is sized c =
@@ -26,3 +49,14 @@ settles_same f ranges n a b worth room before after heads (Ok None) same told s 
 settles_same f ranges n a b worth room before after heads (Ok (Some w)) same told s =
     λ entries. let f = s (λ h d v le t. entries h d v le (sym (same told.1 h d v) ∙ t)) in
     record { places = f.places; sized = λ h d v le t. f.sized h d v le (same told.1 h d v ∙ t); searched = f.searched; weighed = f.weighed; same = record { stand = λ h d v le. f.same.stand h d v le ∙ same told.1 h d v; weigh = f.same.weigh }; chosen = f.chosen }
+
+-- ---- two searches of the same arcs
+pub searched_once : {K : Type 0} (f : K → Worth) (ranges : List Range) → SearchedOnce f ranges
+searched_once f ranges n stands stands' worth worth' same entries heads others None None told s told' s' = tt
+searched_once f ranges n stands stands' worth worth' same entries heads others None (Some b) none s found s' = none others (over_like n stands' stands (λ h d v le. sym (same.stand h d v le)) others found.tree)
+searched_once f ranges n stands stands' worth worth' same entries heads others (Some a) None found s none s' = none heads (over_like n stands stands' same.stand heads found.tree)
+searched_once f ranges n stands stands' worth worth' same entries heads others (Some a) (Some b) told s told' s' =
+    let entries' : Entries n stands' ranges worth' =
+    λ h d v le t. let u = same.stand h d v le ∙ t in subst (λ (w : Worth). entry_in ranges w ≡ true) (same.weigh h d v le u) (entries h d v le u) in
+    let e : heads ≡ others = found_once n stands stands' worth worth' same heads others told.tree.shape.shape.sized told'.tree.shape.shape.sized (s entries) (s' entries') in
+    (e, told.weighs ∙ (worth_like n stands worth worth' heads told.tree same.weigh ∙ (ap (worth_from worth' 1) e ∙ sym told'.weighs)))

@@ -14,4 +14,4 @@ mod Begins
 mod Finds
 mod Barring
 pub mod Choosing
-mod Found
+pub mod Found

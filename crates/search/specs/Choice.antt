@@ -7,6 +7,7 @@ use Rattle.weight.specs.Range.{Range}
 use Rattle.arborescence.specs.Heads.{rooted}
 use Rattle.tree.specs.Chains.{Word, head_of, Reaches}
 use Rattle.word_set.specs.Bits.{in_set}
+use Rattle.search.specs.Answer.{Told}
 use Rattle.search.specs.Arcs.{Sound, Entries}
 use Rattle.search.specs.Family.{Group, from_of, Valid}
 use Rattle.search.specs.Opening.{Ended}
@@ -43,8 +44,21 @@ Settles ranges n stands worth heads (Ok (Some weight)) = Entries n stands ranges
 Settles ranges n stands worth heads (Ok None) = ⊤
 Settles ranges n stands worth heads (Err e) = ⊤
 
+-- both found none, or the same heads with a weight of the same worth
+abbrev pub SameTree : {K : Type 0} → (K → Worth) → List ℕ → Option K → List ℕ → Option K → Type 0
+SameTree f heads None others None = ⊤
+SameTree f heads (Some a) others (Some b) = (heads ≡ others) × (f a ≡ f b)
+SameTree f _ _ _ _ = ⊥
+
 -- ---- what is to show
--- searches of the same arcs find the same tree
+-- searches of the same arcs are answered alike
+abbrev pub SearchedOnce : {K : Type 0} → (K → Worth) → List Range → Type 0
+SearchedOnce {K} f ranges =
+    (n : ℕ) (stands stands' : ℕ → ℕ → Bool) (worth worth' : ℕ → ℕ → Worth) → SameArcs n stands stands' worth worth' → Entries n stands ranges worth →
+    (heads others : List ℕ) (a b : Option K) → Told f n stands worth heads a → Settles ranges n stands worth heads (Ok a) → Told f n stands' worth' others b → Settles ranges n stands' worth' others (Ok b) →
+    SameTree f heads a others b
+
+-- they find the same tree
 abbrev pub FoundOnce : Type 0
 FoundOnce =
     (n : ℕ) (stands stands' : ℕ → ℕ → Bool) (worth worth' : ℕ → ℕ → Worth) → SameArcs n stands stands' worth worth' →

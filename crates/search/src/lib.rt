@@ -5,7 +5,7 @@ ghost use Rattle.std.specs.Prelude.{◌≡◌, ℕ, ◌+◌, ◌*◌, ◌<◌, �
 ghost use Rattle.refusal.specs.declared.Refusal.{Refusal};
 ghost use Rattle.search.specs.Answer.{Line, FirstRefusal, Searched};
 ghost use Rattle.search.specs.Arcs.{allowed, weight_at};
-ghost use Rattle.search.specs.Choice.{FoundOnce, LimitedSets, SameSets, Settles};
+ghost use Rattle.search.specs.Choice.{FoundOnce, LimitedSets, SameSets, SearchedOnce, Settles};
 ghost use Rattle.search.specs.Space.{RoomIn, SameParts};
 
 use crate::graph::Graph;
@@ -90,8 +90,10 @@ pub fn best_tree<K: Kind + Copy>(
     Ok(Some(total.weight()))
 }
 
-// What a search chooses among equals, the arcs alone settle.
-pub fn laws()
+// What a search chooses among equals the arcs alone settle, for every kind: two searches of the same arcs find the same heads, or both
+// none, and the sets that they merge are the same, one after the other.
+pub fn laws<K: Kind>()
+    ensures alike { SearchedOnce K.Kind.worth K.Kind.ranges }
     ensures once { FoundOnce }
     ensures sets { SameSets }
     ensures limited { LimitedSets }

@@ -1,5 +1,15 @@
-use Rattle.search.proofs.Choosing as choosing
+use Rattle.search.proofs.Choosing.{found_once, same_sets, limited_sets}
+use Rattle.search.proofs.Found.{searched_once}
 use Rattle.search.proofs.laws.Goals as goal
 
-pub returns : goal.returns
-returns c = record { once = choosing.found_once; sets = choosing.same_sets; limited = choosing.limited_sets }
+pub returns-clause-alike : goal.returns-clause-alike
+returns-clause-alike g c = searched_once g.K.Kind.worth g.K.Kind.ranges
+
+pub returns-clause-once : goal.returns-clause-once
+returns-clause-once g c = found_once
+
+pub returns-clause-sets : goal.returns-clause-sets
+returns-clause-sets g c = same_sets
+
+pub returns-clause-limited : goal.returns-clause-limited
+returns-clause-limited g c = limited_sets
