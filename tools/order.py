@@ -4,7 +4,8 @@
 usage: python3 tools/order.py [LINES]     at the top of the repository, with pentrace built (rt run < stdin in its folder); 600 lines by chance unless given
 
 The search is that of docs/RULES.md, "The best tree" (with SEARCH.md, "The algorithm"), with its choices among equals; the order is that of
-"Rankings". Each line is also compared with all its trees, for its weights. It reads no code of the repository and is no part of the gate.
+"Rankings". Each line is also compared with all its trees, for its weights. Counts and the last refusal are not compared. It reads no code of the
+repository and is no part of the gate.
 """
 import itertools
 import random

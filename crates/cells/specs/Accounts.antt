@@ -24,7 +24,7 @@ times t ts = count_by (bytes_eq t) ts
 abbrev pub holds : List ℕ → Cell → Bool
 holds t c = in_cell c.heads c.from c.banned t
 
--- x outranks y
+-- x is heavier than y
 abbrev pub heavier : Cell → Cell → Bool
 heavier x y = not (at_most x.worth y.worth)
 

@@ -10,7 +10,7 @@ use Rattle.arborescence.specs.Heads.{worth_from}
 use Rattle.cells.proofs.Counts.{counted}
 use Rattle.cells.specs.Kept.{kept_arcs}
 use Rattle.queue.proofs.Counting.{as_many, count_cons, count_all, count_shuffled}
-use Rattle.ranking.specs.Order.{BestHeld, Offers, Offered, ComesNext, InTurn, Placed, Queued}
+use Rattle.ranking.specs.Order.{BestHeld, Offers, Offered, ComesNext, InTurn, NotLost, Queued}
 use Rattle.search.proofs.Choosing.{found_once}
 use Rattle.sheet.proofs.Rows.{row_same, one_precedes}
 use Rattle.sheet.specs.Candidates.{Row, precedes}
@@ -114,57 +114,57 @@ module _ (n : ℕ) (up : ℕ → ℕ → Bool) (value : ℕ → ℕ → Worth) w
 
   -- the first tree of all
   pub starts : (u : Row) → BestHeld n up value [] 0 u → Queued n up value u.from (u ∷ []) []
-  starts u b = record { turns = b; offered = tt; placed = placed }
+  starts u b = record { turns = b; offered = tt; none_lost = none_lost }
     where
-      placed : (r : Row) → Offered n up value u.from (u ∷ []) r → Placed (u ∷ []) [] r
-      placed r (inl o) = absurd (omega (arith, o.1, o.2.low))
-      placed r (inr o) = absurd o
+      none_lost : (r : Row) → Offered n up value u.from (u ∷ []) r → NotLost (u ∷ []) [] r
+      none_lost r (inl o) = absurd (omega (arith, o.1, o.2.low))
+      none_lost r (inr o) = absurd o
 
   -- one word more is split off: nothing is offered there
   pub passes_by : (p : ℕ) (u : Row) (us ws : List Row) → ((r : Row) → Offers n up value u p r → ⊥) → Queued n up value p (u ∷ us) ws → Queued n up value (suc p) (u ∷ us) ws
   passes_by p u us ws none q = record {
     turns = q.turns;
     offered = All-weaker (Offered n up value p (u ∷ us)) (Offered n up value (suc p) (u ∷ us)) (widen p (u ∷ us)) ws q.offered;
-    placed = λ r o. placed r (here_or_before p u us r o);
+    none_lost = λ r o. none_lost r (here_or_before p u us r o);
   }
     where
-      placed : (r : Row) → Offers n up value u p r ⊎ Offered n up value p (u ∷ us) r → Placed (u ∷ us) ws r
-      placed r (inl o) = absurd (none r o)
-      placed r (inr o) = q.placed r o
+      none_lost : (r : Row) → Offers n up value u p r ⊎ Offered n up value p (u ∷ us) r → NotLost (u ∷ us) ws r
+      none_lost r (inl o) = absurd (none r o)
+      none_lost r (inr o) = q.none_lost r o
 
   -- or x, which joins those that wait
   pub joins : (p : ℕ) (u : Row) (us : List Row) (x : Row) (ws : List Row) → Offers n up value u p x → Queued n up value p (u ∷ us) ws → Queued n up value (suc p) (u ∷ us) (x ∷ ws)
   joins p u us x ws o q = record {
     turns = q.turns;
     offered = (inl (p, omega arith, o), All-weaker (Offered n up value p (u ∷ us)) (Offered n up value (suc p) (u ∷ us)) (widen p (u ∷ us)) ws q.offered);
-    placed = λ r k. placed r (here_or_before p u us r k);
+    none_lost = λ r k. none_lost r (here_or_before p u us r k);
   }
     where
-      more : (r : Row) → Placed (u ∷ us) ws r → Placed (u ∷ us) (x ∷ ws) r
+      more : (r : Row) → NotLost (u ∷ us) ws r → NotLost (u ∷ us) (x ∷ ws) r
       more r (inl c) = inl c
       more r (inr (inl c)) = inr (inl (further_back x r ws c))
       more r (inr (inr h)) = let e = count_cons (λ w. precedes w r) x ws in inr (inr (omega (arith, h, e)))
 
-      placed : (r : Row) → Offers n up value u p r ⊎ Offered n up value p (u ∷ us) r → Placed (u ∷ us) (x ∷ ws) r
-      placed r (inl k) = inr (inl (subst (Contains (x ∷ ws)) (one_offer u p x r o k) (at_front x ws)))
-      placed r (inr k) = more r (q.placed r k)
+      none_lost : (r : Row) → Offers n up value u p r ⊎ Offered n up value p (u ∷ us) r → NotLost (u ∷ us) (x ∷ ws) r
+      none_lost r (inl k) = inr (inl (subst (Contains (x ∷ ws)) (one_offer u p x r o k) (at_front x ws)))
+      none_lost r (inr k) = more r (q.none_lost r k)
 
   -- the order of those that wait does not matter
   pub shuffles : (p : ℕ) (us ws vs : List Row) → IsPermutation ws vs → Queued n up value p us ws → Queued n up value p us vs
   shuffles p us ws vs s q = record {
     turns = q.turns;
     offered = all_shuffled (Offered n up value p us) ws vs s q.offered;
-    placed = λ r o. placed r (q.placed r o);
+    none_lost = λ r o. none_lost r (q.none_lost r o);
   }
     where
-      placed : (r : Row) → Placed us ws r → Placed us vs r
-      placed r (inl c) = inl c
-      placed r (inr (inl c)) = inr (inl (Contains-permutation ws vs r s c))
-      placed r (inr (inr h)) = let e = count_shuffled (λ w. precedes w r) ws vs s in inr (inr (omega (arith, h, e)))
+      none_lost : (r : Row) → NotLost us ws r → NotLost us vs r
+      none_lost r (inl c) = inl c
+      none_lost r (inr (inl c)) = inr (inl (Contains-permutation ws vs r s c))
+      none_lost r (inr (inr h)) = let e = count_shuffled (λ w. precedes w r) ws vs s in inr (inr (omega (arith, h, e)))
 
   -- where enough are left the last of those that wait is dropped
   pub drops : (p : ℕ) (us : List Row) (y : Row) (ws : List Row) → 50 ≤ length us + length ws → AllByRecursion (λ w. precedes y w ≡ false) ws → AllByRecursion (λ w. w.heads ≡ y.heads → ⊥) ws → Queued n up value p us (y ∷ ws) → Queued n up value p us ws
-  drops p us y ws enough least apart q = record { turns = q.turns; offered = q.offered.1; placed = λ r o. placed r (q.placed r o) }
+  drops p us y ws enough least apart q = record { turns = q.turns; offered = q.offered.1; none_lost = λ r o. none_lost r (q.none_lost r o) }
     where
       outnumbered : (r : Row) → AllByRecursion (λ w. precedes w r ≡ true) ws → 50 ≤ length us + count_by (λ w. precedes w r) ws
       outnumbered r all = let e = count_all (λ w. precedes w r) ws all in omega (arith, enough, e)
@@ -180,24 +180,24 @@ module _ (n : ℕ) (up : ℕ → ℕ → Bool) (value : ℕ → ℕ → Worth) w
       or_last r (inl e) = inr (outnumbered r (subst (λ (z : Row). AllByRecursion (λ w. precedes w z ≡ true) ws) (sym e) (before y ws least apart)))
       or_last r (inr c) = inl c
 
-      placed : (r : Row) → Placed us (y ∷ ws) r → Placed us ws r
-      placed r (inl c) = inl c
-      placed r (inr (inl c)) = inr (or_last r (front_or_back y r ws c))
-      placed r (inr (inr h)) = inr (inr (counts r (precedes y r) refl h))
+      none_lost : (r : Row) → NotLost us (y ∷ ws) r → NotLost us ws r
+      none_lost r (inl c) = inl c
+      none_lost r (inr (inl c)) = inr (or_last r (front_or_back y r ws c))
+      none_lost r (inr (inr h)) = inr (inr (counts r (precedes y r) refl h))
 
   -- all is split off: the first of those that wait comes next
   pub comes : (v : Row) (us : List Row) (x : Row) (ws : List Row) → length (v ∷ us) < 50 → AllByRecursion (λ w. precedes w x ≡ false) ws → AllByRecursion (λ w. w.heads ≡ x.heads → ⊥) ws → (Contains (v ∷ us) x → ⊥) → Queued n up value (suc n) (v ∷ us) (x ∷ ws) → Queued n up value x.from (x ∷ v ∷ us) ws
   comes v us x ws few greatest apart new q = record {
-    turns = (q.turns, record { offered = q.offered.0; new = new; first = λ r o. first r (q.placed r o) });
+    turns = (q.turns, record { offered = q.offered.0; new = new; first = λ r o. first r (q.none_lost r o) });
     offered = All-weaker (Offered n up value (suc n) (v ∷ us)) (Offered n up value x.from (x ∷ v ∷ us)) (λ r o. inr o) ws q.offered.1;
-    placed = placed;
+    none_lost = none_lost;
   }
     where
       -- x precedes whatever one that waits precedes
       over : (r : Row) → AllByRecursion (λ w. precedes w r ≡ true → precedes x r ≡ true) (x ∷ ws)
       over r = (λ t. t, All-weaker (λ w. precedes w x ≡ false) (λ w. precedes w r ≡ true → precedes x r ≡ true) (λ w f. precedes_before x w r f) ws greatest)
 
-      first : (r : Row) → Placed (v ∷ us) (x ∷ ws) r → Contains (v ∷ us) r ⊎ ((r ≡ x) ⊎ (precedes x r ≡ true))
+      first : (r : Row) → NotLost (v ∷ us) (x ∷ ws) r → Contains (v ∷ us) r ⊎ ((r ≡ x) ⊎ (precedes x r ≡ true))
       first r (inl c) = inl c
       first r (inr (inl c)) = inr (by (front_or_back x r ws c))
         where
@@ -214,11 +214,11 @@ module _ (n : ℕ) (up : ℕ → ℕ → Bool) (value : ℕ → ℕ → Worth) w
           by true = omega arith
           by false = omega arith
 
-      left : (r : Row) → Placed (v ∷ us) (x ∷ ws) r → Placed (x ∷ v ∷ us) ws r
+      left : (r : Row) → NotLost (v ∷ us) (x ∷ ws) r → NotLost (x ∷ v ∷ us) ws r
       left r (inl c) = inl (further_back x r (v ∷ us) c)
       left r (inr (inl c)) = by (front_or_back x r ws c)
         where
-          by : (r ≡ x) ⊎ Contains ws r → Placed (x ∷ v ∷ us) ws r
+          by : (r ≡ x) ⊎ Contains ws r → NotLost (x ∷ v ∷ us) ws r
           by (inl e) = inl (subst (Contains (x ∷ v ∷ us)) (sym e) (at_front x (v ∷ us)))
           by (inr d) = inr (inl d)
       left r (inr (inr h)) =
@@ -226,6 +226,6 @@ module _ (n : ℕ) (up : ℕ → ℕ → Bool) (value : ℕ → ℕ → Worth) w
           let o = one_less r in
           inr (inr (omega (arith, h, e, o)))
 
-      placed : (r : Row) → Offered n up value x.from (x ∷ v ∷ us) r → Placed (x ∷ v ∷ us) ws r
-      placed r (inl o) = absurd (omega (arith, o.1, o.2.low))
-      placed r (inr o) = left r (q.placed r o)
+      none_lost : (r : Row) → Offered n up value x.from (x ∷ v ∷ us) r → NotLost (x ∷ v ∷ us) ws r
+      none_lost r (inl o) = absurd (omega (arith, o.1, o.2.low))
+      none_lost r (inr o) = left r (q.none_lost r o)

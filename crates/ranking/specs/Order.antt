@@ -14,8 +14,8 @@ use Rattle.weight.specs.Worth.{Worth, AtMost}
 use Rattle.word_set.specs.Bits.{in_set}
 
 -- where us were handed out and ws wait: r is one of these, or would come behind the fiftieth tree
-abbrev pub Placed : (us ws : List Row) → Row → Type 0
-Placed us ws r = Contains us r ⊎ (Contains ws r ⊎ (50 ≤ length us + count_by (λ w. precedes w r) ws))
+abbrev pub NotLost : (us ws : List Row) → Row → Type 0
+NotLost us ws r = Contains us r ⊎ (Contains ws r ⊎ (50 ≤ length us + count_by (λ w. precedes w r) ws))
 
 -- of n words, over the arcs that stand and what they are worth
 module _ (n : ℕ) (up : ℕ → ℕ → Bool) (value : ℕ → ℕ → Worth) where
@@ -58,7 +58,7 @@ module _ (n : ℕ) (up : ℕ → ℕ → Bool) (value : ℕ → ℕ → Worth) w
   pub record Queued (p : ℕ) (us ws : List Row) : Type 0 where
     pub turns : InTurn us
     pub offered : AllByRecursion (Offered p us) ws
-    pub placed : (r : Row) → Offered p us r → Placed us ws r
+    pub none_lost : (r : Row) → Offered p us r → NotLost us ws r
 
 -- these trees, the latest first, are the first of the sheet's, in their order
 abbrev pub InOrder : {K : Type 0} → (K → Worth) → ℕ → Arcs K → List (List ℕ) → Type 0

@@ -1,4 +1,5 @@
-// The ranking of a sheet's trees: each take hands out the heaviest that is still untaken, up to fifty.
+// The ranking of a sheet's trees: each take hands out the heaviest that is still untaken, up to fifty. Which of equal trees comes when is
+// settled by the arcs (specs/Order.antt).
 #![tactic(auto)]
 
 ghost use Rattle.std.specs.Prelude.{◌≡◌, ℕ, suc, ◌<◌, ◌≤◌, List, [], length, IfOk};
@@ -136,7 +137,7 @@ impl<K: Kind + Copy> Ranking<K> {
     }
 }
 
-// Hands out the heaviest untaken tree: its heads go to the front of the space.
+// Hands out the heaviest untaken tree, of several the next in order: its heads go to the front of the space.
 pub fn take<K: Opens + Copy>(
     ranking: &mut Ranking<K>,
     weights: &[K],

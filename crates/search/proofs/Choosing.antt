@@ -8,7 +8,6 @@ use Rattle.tree.proofs.Chains.{up_plus}
 use Rattle.arborescence.specs.Sum.{sum_if}
 use Rattle.arborescence.specs.Search.{Sets, Leader, leads, Into}
 use Rattle.arborescence.proofs.Sums.{at_most_eq, sum_same}
-use Rattle.arborescence.proofs.Merged as merges
 use Rattle.weight.proofs.Worths.{at_most_trans}
 use Rattle.word_set.specs.Bits.{in_set}
 use Rattle.word_set.proofs.Sets.{same_set}
@@ -18,7 +17,7 @@ use Rattle.search.specs.Ring.{Laid, Ring}
 use Rattle.search.specs.Choice.{opened, Chosen, SameArcs, Finds, FoundOnce, SameSets, LimitedSets}
 use Rattle.search.proofs.Families.{valid_sets}
 use Rattle.search.proofs.Stages.{valid_begun, valid_laid}
-use Rattle.search.proofs.Rings.{from_same}
+use Rattle.search.proofs.Rings.{from_same, joined_ring}
 use Rattle.search.proofs.Joining.{to_scan, from_scan}
 use Rattle.search.proofs.Heads.{opened_same}
 
@@ -48,10 +47,7 @@ one_pick A B w u to_b to_a same a b c d v t p q =
     (e.0, e.1, p.valued ∙ (ap (λ (x : ℕ). w x b) e.0 ∙ (ap (w c) e.1 ∙ (same c d at ∙ sym q.valued))))
 
 group_same : (a b : Group) → a.members ≡ b.members → a.from ≡ b.from → a.to ≡ b.to → a.value ≡ b.value → a ≡ b
-group_same a b m f t v =
-    ap (λ (x : ℕ). record { members = x; from = a.from; to = a.to; value = a.value }) m
-    ∙ (ap (λ (x : ℕ). record { members = b.members; from = x; to = a.to; value = a.value }) f
-    ∙ (ap (λ (x : ℕ). record { members = b.members; from = b.from; to = x; value = a.value }) t ∙ ap (λ (x : Worth). record { members = b.members; from = b.from; to = b.to; value = x }) v))
+group_same a b m f t v = λ i. record { members = m i; from = f i; to = t i; value = v i }
 
 -- ---- chains
 chain_same : (n : ℕ) (f g : ℕ → ℕ) → ((v : ℕ) → v ≤ n → f v ≡ g v) → ((v : ℕ) → v ≤ n → f v ≤ n) → (k v : ℕ) → v ≤ n → up f k v ≡ up g k v
@@ -137,7 +133,7 @@ module _ (n : ℕ) (base base' : ℕ → Group) (ms : List Group) (laid : Laid n
 
   -- a ring, and a way, of the other record
   module _ (from_is : (v : ℕ) → v ≤ n → from_of base ms v ≡ from_of base' ms v) where
-    pub ring_moved : (S : ℕ) → Ring n base' ms S → Ring n base ms S
+    ring_moved : (S : ℕ) → Ring n base' ms S → Ring n base ms S
     ring_moved S r =
         record {
           root = r.root;
@@ -154,7 +150,7 @@ module _ (n : ℕ) (base base' : ℕ → Group) (ms : List Group) (laid : Laid n
         rep_line zero le = subst (λ (x : ℕ). x ≤ n) (sym laid.sets.root) le
         rep_line (suc v) le = (laid.sets.word (suc v) (omega arith)).1
 
-    pub way_moved : (w : ℕ) → OnFirstWay n (from_of base' ms) w → OnFirstWay n (from_of base ms) w
+    way_moved : (w : ℕ) → OnFirstWay n (from_of base' ms) w → OnFirstWay n (from_of base ms) w
     way_moved w a =
         record {
           start = a.start;
@@ -168,10 +164,6 @@ module _ (n : ℕ) (base base' : ℕ → Group) (ms : List Group) (laid : Laid n
 
 -- ---- what a joined set says
 module _ (n : ℕ) (stands : ℕ → ℕ → Bool) (worth : ℕ → ℕ → Worth) (z : Worth) (base : ℕ → Group) (m : Group) (ms : List Group) (laid : Laid n base ms) (j : Joined n stands worth z base m ms) where
-  joined_ring : Ring n base ms m.members
-  joined_ring =
-      record { root = j.union.root; in_line = j.in_line; closed = λ v le. merges.closed n (rep_of ms) (in_set m.members) m.to laid.sets j.union v le; some = (m.to, j.union.word, j.union.inside); within = j.within; round = j.round }
-
   joined_pick : Pick (SetArc n (n + 1) stands m.members) (λ h d. plus (worth h d) (add_of n z base (m ∷ ms) d)) m.from m.to m.value
   joined_pick =
       record {
@@ -182,10 +174,10 @@ module _ (n : ℕ) (stands : ℕ → ℕ → Bool) (worth : ℕ → ℕ → Wort
       }
     where
       to_scan_of : (h d : ℕ) → Into n stands (rep_of (m ∷ ms)) m.to h d → SetArc n (n + 1) stands m.members h d
-      to_scan_of = to_scan (λ (x : Worth). x) 0 n stands worth base ms laid m.members joined_ring m.to j.union.word j.union.inside
+      to_scan_of = to_scan (λ (x : Worth). x) 0 n stands worth base ms laid m.members (joined_ring n base ms laid stands worth z m j) m.to j.union.word j.union.inside
 
       from_scan_of : (h d : ℕ) → SetArc n (n + 1) stands m.members h d → Into n stands (rep_of (m ∷ ms)) m.to h d
-      from_scan_of = from_scan (λ (x : Worth). x) 0 n stands worth base ms laid m.members joined_ring m.to j.union.word j.union.inside
+      from_scan_of = from_scan (λ (x : Worth). x) 0 n stands worth base ms laid m.members (joined_ring n base ms laid stands worth z m j) m.to j.union.word j.union.inside
 
 -- ---- two searches of the same arcs
 module _ (p n : ℕ) (stands stands' : ℕ → ℕ → Bool) (worth worth' : ℕ → ℕ → Worth) (same : SameArcs n stands stands' worth worth') (sound : Sound n stands worth (zeros (suc p))) (sound' : Sound n stands' worth' (zeros (suc p)))
@@ -241,10 +233,10 @@ module _ (p n : ℕ) (stands stands' : ℕ → ℕ → Bool) (worth worth' : ℕ
         laid' = valid_laid n stands' worth' (zeros (suc p)) sound'.whole base' ms valid'.0
 
         ring : Ring n base ms m.members
-        ring = joined_ring n stands worth (zeros (suc p)) base m ms laid valid.1
+        ring = joined_ring n base ms laid stands worth (zeros (suc p)) m valid.1
 
         ring' : Ring n base' ms m'.members
-        ring' = joined_ring n stands' worth' (zeros (suc p)) base' m' ms laid' valid'.1
+        ring' = joined_ring n base' ms laid' stands' worth' (zeros (suc p)) m' valid'.1
 
         members : m.members ≡ m'.members
         members =
@@ -288,7 +280,7 @@ module _ (p n : ℕ) (stands stands' : ℕ → ℕ → Bool) (worth worth' : ℕ
             let v = subst (λ (xs : List Group). Valid n stands' worth' (zeros (suc p)) base' (m' ∷ xs)) (sym q) valid' in
             let laid = valid_laid n stands worth (zeros (suc p)) sound.whole base ms valid in
             let laid' = valid_laid n stands' worth' (zeros (suc p)) sound'.whole base' ms v.0 in
-            let ring = ring_moved n base base' ms laid (from_is ms) m'.members (joined_ring n stands' worth' (zeros (suc p)) base' m' ms laid' v.1) in
+            let ring = ring_moved n base base' ms laid (from_is ms) m'.members (joined_ring n base' ms laid' stands' worth' (zeros (suc p)) m' v.1) in
             let c = v.1.chosen in
             let w = way_moved n base base' ms laid (from_is ms) c.0 c.2 in
             no_way n base base' ms laid m'.members ring c.0 c.1 w (reach w.start w.word)
@@ -318,12 +310,12 @@ chosen_once p n stands stands' worth worth' same head head' c d w v =
 rooted_same : (n : ℕ) (stands stands' : ℕ → ℕ → Bool) (worth worth' : ℕ → ℕ → Worth) → SameArcs n stands stands' worth worth' → SameArcs n stands stands' (rooted worth) (rooted worth')
 rooted_same n stands stands' worth worth' s = record { stand = s.stand; weigh = λ h d v le t. ap (λ (x : Worth). cond (eqb h 0) (negsuc 0) (pos 0) ∷ x) (s.weigh h d v le t) }
 
-pub same_through : (n : ℕ) (a b c : ℕ → ℕ → Bool) (u v w : ℕ → ℕ → Worth) → SameArcs n a b u v → SameArcs n b c v w → SameArcs n a c u w
+same_through : (n : ℕ) (a b c : ℕ → ℕ → Bool) (u v w : ℕ → ℕ → Worth) → SameArcs n a b u v → SameArcs n b c v w → SameArcs n a c u w
 same_through n a b c u v w s t =
     record { stand = λ h d k le. s.stand h d k le ∙ t.stand h d k le; weigh = λ h d k le x. s.weigh h d k le x ∙ t.weigh h d k le (sym (s.stand h d k le) ∙ x) }
 
 -- lists of the same heads
-pub heads_same : (n : ℕ) (xs ys : List ℕ) → length xs ≡ n → length ys ≡ n → ((w : ℕ) → Word n w → head_of xs w ≡ head_of ys w) → xs ≡ ys
+heads_same : (n : ℕ) (xs ys : List ℕ) → length xs ≡ n → length ys ≡ n → ((w : ℕ) → Word n w → head_of xs w ≡ head_of ys w) → xs ≡ ys
 heads_same n [] [] e q same = refl
 heads_same n [] (y ∷ ys) e q same = absurd (omega (arith, e, q))
 heads_same n (x ∷ xs) [] e q same = absurd (omega (arith, e, q))

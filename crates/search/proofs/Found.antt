@@ -6,9 +6,9 @@ use Rattle.weight.specs.Worth.{Worth, plus}
 use Rattle.arborescence.specs.Heads.{TreeOver, worth_from, rooted}
 use Rattle.tree.specs.Chains.{Word, head_of}
 use Rattle.search.proofs.Choosing.{found_once}
-use Rattle.search.specs.Answer.{Told, Searched}
+use Rattle.search.specs.Answer.{Searched}
 use Rattle.search.specs.Arcs.{Entries}
-use Rattle.search.specs.Choice.{Chosen, SameArcs, Finds, Settles, SearchedOnce}
+use Rattle.search.specs.Choice.{Chosen, Finds, Settles, SearchesAlike}
 
 -- trees over arcs that agree on the line
 pub over_like : (n : ℕ) (a b : ℕ → ℕ → Bool) → ((h d : ℕ) → Word n d → h ≤ n → a h d ≡ b h d) → (t : List ℕ) → TreeOver n a t → TreeOver n b t
@@ -51,11 +51,11 @@ settles_same f ranges n a b worth room before after heads (Ok (Some w)) same tol
     record { places = f.places; sized = λ h d v le t. f.sized h d v le (same told.1 h d v ∙ t); searched = f.searched; weighed = f.weighed; same = record { stand = λ h d v le. f.same.stand h d v le ∙ same told.1 h d v; weigh = f.same.weigh }; chosen = f.chosen }
 
 -- ---- two searches of the same arcs
-pub searched_once : {K : Type 0} (f : K → Worth) (ranges : List Range) → SearchedOnce f ranges
-searched_once f ranges n stands stands' worth worth' same entries heads others None None told s told' s' = tt
-searched_once f ranges n stands stands' worth worth' same entries heads others None (Some b) none s found s' = none others (over_like n stands' stands (λ h d v le. sym (same.stand h d v le)) others found.tree)
-searched_once f ranges n stands stands' worth worth' same entries heads others (Some a) None found s none s' = none heads (over_like n stands stands' same.stand heads found.tree)
-searched_once f ranges n stands stands' worth worth' same entries heads others (Some a) (Some b) told s told' s' =
+pub searches_alike : {K : Type 0} (f : K → Worth) (ranges : List Range) → SearchesAlike f ranges
+searches_alike f ranges n stands stands' worth worth' same entries heads others None None told s told' s' = tt
+searches_alike f ranges n stands stands' worth worth' same entries heads others None (Some b) none s found s' = none others (over_like n stands' stands (λ h d v le. sym (same.stand h d v le)) others found.tree)
+searches_alike f ranges n stands stands' worth worth' same entries heads others (Some a) None found s none s' = none heads (over_like n stands stands' same.stand heads found.tree)
+searches_alike f ranges n stands stands' worth worth' same entries heads others (Some a) (Some b) told s told' s' =
     let entries' : Entries n stands' ranges worth' =
     λ h d v le t. let u = same.stand h d v le ∙ t in subst (λ (w : Worth). entry_in ranges w ≡ true) (same.weigh h d v le u) (entries h d v le u) in
     let e : heads ≡ others = found_once n stands stands' worth worth' same heads others told.tree.shape.shape.sized told'.tree.shape.shape.sized (s entries) (s' entries') in

@@ -16,9 +16,9 @@ use Rattle.search.specs.Arcs.{Sound}
 use Rattle.search.specs.Family.{Group, rep_of, from_of, best_of, add_of, size_of, Valid}
 use Rattle.search.specs.Ring.{Laid, Ring}
 use Rattle.search.proofs.Raised.{sum_small}
-use Rattle.search.proofs.Families.{entered, valid_sets, valid_sized, value_within}
+use Rattle.search.proofs.Families.{entered, valid_sized, value_within}
 use Rattle.search.proofs.Stages.{valid_laid}
-use Rattle.search.proofs.Rings.{best_same_set}
+use Rattle.search.proofs.Rings.{best_same_set, joined_ring}
 
 size_le : (n m : ℕ) (rep : ℕ → ℕ) (add : ℕ → Worth) (size : ℕ → ℕ) → Sized n m rep add size → (ℓ : ℕ) → Leader n rep ℓ → size ℓ ≤ n
 size_le n m rep add size sized ℓ lead = omega (arith, sized.all, count_out (leads rep) size n ℓ lead.word (eq-eqb (rep ℓ) ℓ lead.own))
@@ -107,7 +107,7 @@ module _ (p n : ℕ) (few : n ≤ 40) (stands : ℕ → ℕ → Bool) (worth : �
   valid_count (m ∷ ms) valid = by (valid_count ms valid.0)
     where
       ring : Ring n base ms m.members
-      ring = record { root = valid.1.union.root; in_line = valid.1.in_line; closed = λ v le. merges.closed n (rep_of ms) (in_set m.members) m.to (valid_sets n stands worth (zeros (suc p)) sound.whole base ms valid.0) valid.1.union v le; some = (m.to, valid.1.union.word, valid.1.union.inside); within = valid.1.within; round = valid.1.round }
+      ring = joined_ring n base ms (valid_laid n stands worth (zeros (suc p)) sound.whole base ms valid.0) stands worth (zeros (suc p)) m valid.1
 
       by : length ms + count_if (leads (rep_of ms)) (λ _. 1) n ≤ n → length (m ∷ ms) + count_if (leads (rep_of (m ∷ ms))) (λ _. 1) n ≤ n
       by le = omega (arith, le, fewer_sets p n few stands worth sound base ms valid.0 m.members ring m.to valid.1.union)

@@ -2,9 +2,11 @@ use Rattle.std.proofs.Common.{◌≡◌, ℕ, zero, suc, ◌+◌, ◌<◌, ◌�
 use Rattle.std.proofs.lemmas.Bool.{cases_eq, both_ways, or_left, or_right, or_cases, eq-eqb, ne_eqb, eqb-true}
 use Rattle.tree.specs.Chains.{Word, up}
 use Rattle.arborescence.specs.Search.{Leader}
+use Rattle.arborescence.proofs.Merged as merges
 use Rattle.tree.proofs.Chains.{up_plus}
 use Rattle.word_set.specs.Bits.{in_set}
-use Rattle.search.specs.Family.{Group, entry, rep_of, from_of, best_of, next_of}
+use Rattle.weight.specs.Worth.{Worth}
+use Rattle.search.specs.Family.{Group, entry, rep_of, from_of, best_of, next_of, Joined}
 use Rattle.search.specs.Ring.{Laid, Periodic, Going, Ring}
 use Rattle.search.proofs.Counts.{missing, missing_less}
 use Rattle.search.proofs.Records.{entry_from, entry_value, up_last}
@@ -141,3 +143,8 @@ module _ (n : ℕ) (base : ℕ → Group) (ms : List Group) (laid : Laid n base 
       by : (at ≡ word) ⊎ (in_set S word ≡ true) → in_set S word ≡ true
       by (inl e) = subst (λ (x : ℕ). in_set S x ≡ true) e t
       by (inr u) = u
+
+  -- a merged set is a ring
+  pub joined_ring : (stands : ℕ → ℕ → Bool) (worth : ℕ → ℕ → Worth) (z : Worth) (m : Group) → Joined n stands worth z base m ms → Ring n base ms m.members
+  joined_ring stands worth z m j =
+      record { root = j.union.root; in_line = j.in_line; closed = λ v le. merges.closed n (rep_of ms) (in_set m.members) m.to laid.sets j.union v le; some = (m.to, j.union.word, j.union.inside); within = j.within; round = j.round }

@@ -17,7 +17,7 @@ abbrev pub opened : List ℕ → (ℕ → ℕ) → List Group → ℕ → ℕ
 opened done head [] w = head w
 opened done head (m ∷ ms) w = cond (list_any (in_set m.members) done) (opened done head ms w) (opened (m.to ∷ done) (λ v. cond (v == m.to) m.from (head v)) ms w)
 
--- the heads that a search of these arcs comes to, over a kind with p places
+-- the heads that a search of these arcs comes to, over the root layer of a kind with p places
 pub record Chosen (p n : ℕ) (stands : ℕ → ℕ → Bool) (worth : ℕ → ℕ → Worth) (head : ℕ → ℕ) : Type 0 where
   pub base : ℕ → Group
   pub sets : List Group
@@ -29,7 +29,7 @@ pub record SameArcs (n : ℕ) (stands stands' : ℕ → ℕ → Bool) (worth wor
   pub stand : (h d : ℕ) → Word n d → h ≤ n → stands h d ≡ stands' h d
   pub weigh : (h d : ℕ) → Word n d → h ≤ n → stands h d ≡ true → worth h d ≡ worth' h d
 
--- a search of arcs that are the same comes to these heads
+-- a search of these arcs, in whatever words they are told, comes to these heads
 pub record Finds (n : ℕ) (stands : ℕ → ℕ → Bool) (worth : ℕ → ℕ → Worth) (heads : List ℕ) : Type 0 where
   pub places : ℕ
   pub sized : (h d : ℕ) → Word n d → h ≤ n → stands h d ≡ true → length (worth h d) ≡ places
@@ -52,13 +52,13 @@ SameTree f _ _ _ _ = ⊥
 
 -- ---- what is to show
 -- searches of the same arcs are answered alike
-abbrev pub SearchedOnce : {K : Type 0} → (K → Worth) → List Range → Type 0
-SearchedOnce {K} f ranges =
+abbrev pub SearchesAlike : {K : Type 0} → (K → Worth) → List Range → Type 0
+SearchesAlike {K} f ranges =
     (n : ℕ) (stands stands' : ℕ → ℕ → Bool) (worth worth' : ℕ → ℕ → Worth) → SameArcs n stands stands' worth worth' → Entries n stands ranges worth →
     (heads others : List ℕ) (a b : Option K) → Told f n stands worth heads a → Settles ranges n stands worth heads (Ok a) → Told f n stands' worth' others b → Settles ranges n stands' worth' others (Ok b) →
     SameTree f heads a others b
 
--- they find the same tree
+-- at their heart: they come to the same heads
 abbrev pub FoundOnce : Type 0
 FoundOnce =
     (n : ℕ) (stands stands' : ℕ → ℕ → Bool) (worth worth' : ℕ → ℕ → Worth) → SameArcs n stands stands' worth worth' →

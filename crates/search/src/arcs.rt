@@ -17,7 +17,7 @@ pub(crate) struct Entering<K> {
     pub(crate) value: Root<K>,
 }
 
-// The one that is worth more.
+// The one that is worth more, of equals the first.
 fn better<K: Kind + Copy>(a: Option<Entering<K>>, b: Option<Entering<K>>) -> Option<Entering<K>>
     ensures { result ≡ better_of K.Kind.worth a b }
 {

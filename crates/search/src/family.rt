@@ -98,7 +98,7 @@ impl<K: Kind + Copy> Family<'_, K> {
         Ok(seen)
     }
 
-    // Walks from each word to the root; the error is a word on a ring of heads.
+    // Walks from each word to the root; the error is a word on the ring that the first way which does not lead there runs into.
     pub(crate) fn walk_all(&self) -> Result<(), usize>
         requires heads { (w : ℕ) → Word self.now.words w → head_in K.Kind.worth self.now w ≤ self.now.words }
         ensures { Found self.now.words (head_in K.Kind.worth self.now) result }

@@ -57,7 +57,7 @@ impl<K: Kind + Copy> Graph<'_, K> {
         Root::new(from, self.weight(from, to))
     }
 
-    // Of the best head so far and another the one whose arc into the word weighs more.
+    // Of the best head so far and another the one whose arc into the word weighs more; of equals the one so far.
     fn better_head(&self, to: usize, best: Option<usize>, from: usize) -> usize
         requires to { Word self.now.words to }
         requires from { from ≤ self.now.words }
@@ -76,7 +76,7 @@ impl<K: Kind + Copy> Graph<'_, K> {
         }
     }
 
-    // The best of some words as heads of a word.
+    // The best of some words as heads of a word, of equals the least.
     fn best_word(&self, to: usize, heads: u64) -> Option<usize>
         requires to { Word self.now.words to }
         requires heads { InLine self.now.words heads }

@@ -5,7 +5,7 @@ ghost use Rattle.std.specs.Prelude.{◌≡◌, ℕ, ◌+◌, ◌*◌, ◌<◌, �
 ghost use Rattle.refusal.specs.declared.Refusal.{Refusal};
 ghost use Rattle.search.specs.Answer.{Line, FirstRefusal, Searched};
 ghost use Rattle.search.specs.Arcs.{allowed, weight_at};
-ghost use Rattle.search.specs.Choice.{FoundOnce, LimitedSets, SameSets, SearchedOnce, Settles};
+ghost use Rattle.search.specs.Choice.{FoundOnce, LimitedSets, SameSets, SearchesAlike, Settles};
 ghost use Rattle.search.specs.Space.{RoomIn, SameParts};
 
 use crate::graph::Graph;
@@ -56,7 +56,8 @@ fn check<K>(
 
 // The heaviest single-root tree of the line over the arcs that stand. Bit h of `sets[d - 1]` is up where the arc from h to d stands,
 // and `weights[(d - 1) * (words + 1) + h]` is its weight. The first words are held, each at its head in `held`.
-// The heads are written to the front of `heads`, and the weight is returned; none where there is no such tree.
+// The heads are written to the front of `heads`, and the weight is returned; none where there is no such tree. Which of several heaviest
+// trees it is, the arcs settle (specs/Choice.antt).
 pub fn best_tree<K: Kind + Copy>(
     words: usize,
     sets: &[u64],
@@ -93,7 +94,7 @@ pub fn best_tree<K: Kind + Copy>(
 // What a search chooses among equals the arcs alone settle, for every kind: two searches of the same arcs find the same heads, or both
 // none, and the sets that they merge are the same, one after the other.
 pub fn laws<K: Kind>()
-    ensures alike { SearchedOnce K.Kind.worth K.Kind.ranges }
+    ensures alike { SearchesAlike K.Kind.worth K.Kind.ranges }
     ensures once { FoundOnce }
     ensures sets { SameSets }
     ensures limited { LimitedSets }

@@ -1,5 +1,5 @@
 -- What the order of the rows says
-use Rattle.std.proofs.Common.{◌≡◌, ℕ, Bool, true, false, cond, not, List, Ordering, Less, Equal, Greater, refl, ap, ◌∙◌}
+use Rattle.std.proofs.Common.{◌≡◌, Bool, true, false, cond, not, Ordering, Less, Equal, Greater, refl, ap}
 use Rattle.std.specs.Cmp.Lexicographic.{slice_cmp}
 use Rattle.std.specs.Ordering.{nat_cmp, ordering_then, ordering_reverse, is_gt}
 use Rattle.std.proofs.lemmas.Map.Lookups.{exact_bytes}
@@ -28,7 +28,4 @@ one_precedes a b apart f = by (order b.worth a.worth) (slice_cmp nat_cmp a.heads
     by Equal Equal e turned f = absurd (apart (exact_bytes a.heads b.heads e))
 
 pub row_same : (a b : Row) → a.worth ≡ b.worth → a.heads ≡ b.heads → a.from ≡ b.from → a.banned ≡ b.banned → a ≡ b
-row_same a b w h f g =
-    ap (λ (x : Worth). record { worth = x; heads = a.heads; from = a.from; banned = a.banned }) w
-    ∙ (ap (λ (x : List ℕ). record { worth = b.worth; heads = x; from = a.from; banned = a.banned }) h
-    ∙ (ap (λ (x : ℕ). record { worth = b.worth; heads = b.heads; from = x; banned = a.banned }) f ∙ ap (λ (x : ℕ). record { worth = b.worth; heads = b.heads; from = b.from; banned = x }) g))
+row_same a b w h f g = λ i. record { worth = w i; heads = h i; from = f i; banned = g i }

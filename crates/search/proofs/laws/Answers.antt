@@ -1,9 +1,9 @@
 use Rattle.search.proofs.Choosing.{found_once, same_sets, limited_sets}
-use Rattle.search.proofs.Found.{searched_once}
+use Rattle.search.proofs.Found.{searches_alike}
 use Rattle.search.proofs.laws.Goals as goal
 
 pub returns-clause-alike : goal.returns-clause-alike
-returns-clause-alike g c = searched_once g.K.Kind.worth g.K.Kind.ranges
+returns-clause-alike g c = searches_alike g.K.Kind.worth g.K.Kind.ranges
 
 pub returns-clause-once : goal.returns-clause-once
 returns-clause-once g c = found_once
