@@ -3,7 +3,7 @@
 
 ghost use Rattle.std.specs.Prelude.{◌≡◌, ◌≤◌, length, replicate, is_some, IfOk, Some, None};
 ghost use Rattle.sheet.specs.Arcs.{arcs_in, no_arcs, with_arc};
-ghost use Rattle.sheet.specs.Candidates.{outranking};
+ghost use Rattle.sheet.specs.Candidates.{NoneLevel, outranking};
 ghost use Rattle.sheet.specs.Orders;
 ghost use Rattle.sheet.specs.Calls.{Answered, arc_check, checked, ends_check, Holds, memory_check, open_check, put_check, strike_check, too_short};
 ghost use Rattle.sheet.specs.Parts.{lengths_of};
@@ -160,6 +160,11 @@ impl<K: Kind> Ranked for Candidate<K> {
         }
     }
 }
+
+// What the order of candidates says: of two with different heads just one comes before the other, whatever they weigh.
+pub fn laws()
+    ensures { NoneLevel }
+{}
 
 // Opens a sheet: every arc of its line is absent, whatever the memory held.
 pub fn open<K: Opens + Copy>(
