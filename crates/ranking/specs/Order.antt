@@ -19,7 +19,8 @@ NotLost us ws r = Contains us r ⊎ (Contains ws r ⊎ (50 ≤ length us + count
 
 -- of n words, over the arcs that stand and what they are worth
 module _ (n : ℕ) (up : ℕ → ℕ → Bool) (value : ℕ → ℕ → Worth) where
-  -- of the trees with the held heads, and at the next word none of the barred heads, this row has the one that the search finds: a heaviest
+  -- of the trees with the held heads, and at the next word none of the barred heads, this row has the one that the search finds, which is a
+  -- heaviest; behind its n heads the bytes are 0
   pub record BestHeld (held : List ℕ) (barred : ℕ) (r : Row) : Type 0 where
     pub from : r.from ≡ length held + 1
     pub banned : r.banned ≡ barred

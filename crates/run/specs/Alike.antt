@@ -37,9 +37,11 @@ module _ {K : Type 0} (worth : K → Worth) where
   AnswerAlike (Handed a t) (Handed b s) = (a ≡ b) × (worth t.weight ≡ worth s.weight) × (t.count ≡ s.count)
   AnswerAlike _ _ = ⊥
 
+  -- the same calls, turn by turn
   abbrev pub CallsAlike : Run K → Run K → Type 0
   CallsAlike = TurnByTurn (λ t s. CallAlike t.call s.call)
 
+  -- the same answers, turn by turn
   abbrev pub AnswersAlike : Run K → Run K → Type 0
   AnswersAlike = TurnByTurn (λ t s. AnswerAlike t.answer s.answer)
 
@@ -59,8 +61,8 @@ module _ {K : Type 0} (worth : K → Worth) where
       (n : ℕ) (run other later later' : Run K) → Keeps worth ranges n (later ++ run) → Keeps worth ranges n (later' ++ other) → CameAlike n run other → CallsAlike later later' →
       AnswersAlike later later' × CameAlike n (later ++ run) (later' ++ other)
 
-  -- any two runs of the same calls on fresh sheets of as many words are answered alike, whatever memory they were lent. (`Ran` is a run that
-  -- was not refused as a whole: that is settled by words and lengths alone, `run_check`.)
+  -- any two runs of the same calls on fresh sheets of the same number of words are answered alike, whatever memory they are lent. (`Ran` is
+  -- a run that was not refused as a whole: that is settled by words and lengths alone, `run_check`.)
   abbrev pub RunsAlike : List Range → Type 0
   RunsAlike ranges =
       (n : ℕ) (calls : List (Call K)) (memory memory' other other' : Memory K) (turns turns' notes notes' : List (Turn K)) →

@@ -269,7 +269,7 @@ pub fn run<K: Opens + Copy>(
 
 // What follows from the law, for every kind: a ranking hands out no tree twice, skips none, and its weights never rise; the same calls
 // are answered alike after runs that have come to the same arcs, whatever calls those were; and so any two runs of the same calls
-// are answered alike, whatever memory, long enough, they were lent.
+// are answered alike, whatever memory they are lent and whatever it holds, if only it is long enough.
 pub fn laws<K: Opens>()
     ensures truly { RanksTruly K.Kind.worth K.Kind.ranges }
     ensures settled { CallsSettle K.Kind.worth K.Kind.ranges }

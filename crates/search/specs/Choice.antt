@@ -29,7 +29,7 @@ pub record SameArcs (n : ℕ) (stands stands' : ℕ → ℕ → Bool) (worth wor
   pub stand : (h d : ℕ) → Word n d → h ≤ n → stands h d ≡ stands' h d
   pub weigh : (h d : ℕ) → Word n d → h ≤ n → stands h d ≡ true → worth h d ≡ worth' h d
 
--- a search of these arcs, in whatever words they are told, comes to these heads
+-- a search comes to these heads, of arcs that are these on the line, told by functions that may differ elsewhere
 pub record Finds (n : ℕ) (stands : ℕ → ℕ → Bool) (worth : ℕ → ℕ → Worth) (heads : List ℕ) : Type 0 where
   pub places : ℕ
   pub sized : (h d : ℕ) → Word n d → h ≤ n → stands h d ≡ true → length (worth h d) ≡ places

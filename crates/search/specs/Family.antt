@@ -49,8 +49,8 @@ next_of base ms w = rep_of ms (from_of base ms w)
 abbrev pub First : (n : ℕ) (stands : ℕ → ℕ → Bool) (worth : ℕ → ℕ → Worth) (rep : ℕ → ℕ) (add : ℕ → Worth) (ℓ : ℕ) (from to : ℕ) (v : Worth) → Type 0
 First n stands worth rep add ℓ from to v = (h d : ℕ) → Into n stands rep ℓ h d → AtMost v (plus (worth h d) (add d)) → NoLater from to h d
 
--- a word on the way of a word before which every word's heads lead to the root: where the way runs into a ring, that is the first word
--- whose heads do not lead there
+-- w is on the way of a word `start`, and the heads of every word before `start` lead to the root. So where the way of `start` runs into a
+-- ring, `start` is the first word whose heads do not lead there.
 pub record OnFirstWay (n : ℕ) (head : ℕ → ℕ) (w : ℕ) : Type 0 where
   pub start : ℕ
   pub word : Word n start

@@ -34,7 +34,8 @@ sets_in f records = sets_of f records.made.now
 abbrev pub head_in : {K : Type 0} → (K → Worth) → Records K → ℕ → ℕ
 head_in f records = from_of (base_in f records) (sets_in f records)
 
--- where a walk along the heads came to: each word that it met leads to one that was fine, or it met one twice
+-- where a walk along the heads came to: each word that it met leads to one that was fine, or the error is a word on the way from `start`
+-- whose heads lead back to it
 abbrev pub Walked : ℕ → (ℕ → ℕ) → ℕ → ℕ → Result ℕ ℕ → Type 0
 Walked n head fine start (Ok seen) = ((x : ℕ) → in_set seen x ≡ true → (k : ℕ) × (in_set fine (up head k x) ≡ true)) × ((in_set fine start || in_set seen start) ≡ true)
 Walked n head fine start (Err w) = Word n w × ((k : ℕ) × (up head (suc k) w ≡ w)) × ((k : ℕ) × (up head k start ≡ w))

@@ -123,7 +123,7 @@ impl<K> Sheet<K> {
     }
 }
 
-// A tree that waits to be handed out: the heaviest of its cell. The cell holds the trees with the same heads before the word
+// A tree that waits to be handed out: a heaviest of its cell. The cell holds the trees with the same heads before the word
 // `from`, and at that word a head that is not banned. The record is of fixed size, since a line has at most forty words.
 #[derive(Clone, Copy)]
 pub struct Candidate<K> {
