@@ -1,13 +1,15 @@
 -- What was found, over other words for the same arcs
-use Rattle.std.proofs.Common.{◌≡◌, ℕ, suc, ◌+◌, ◌<◌, ◌≤◌, Bool, true, List, [], ◌∷◌, length, get_or, Some, None, Ok, Err, Option, Result, sym, refl, ap, ◌∙◌, subst, arith}
+use Rattle.std.proofs.Common.{◌≡◌, ℕ, suc, ◌+◌, ◌<◌, ◌≤◌, Bool, true, List, [], ◌∷◌, length, get_or, Some, None, Ok, Err, Option, Result, sym, refl, ap, ◌∙◌, subst, arith, ◌&&◌, not, take, set, length-set}
 use Rattle.refusal.specs.declared.Refusal.{Refusal}
 use Rattle.weight.specs.Range.{Range, entry_in}
 use Rattle.weight.specs.Worth.{Worth, plus}
 use Rattle.arborescence.specs.Heads.{TreeOver, worth_from, rooted}
 use Rattle.tree.specs.Chains.{Word, head_of}
+use Rattle.word_set.specs.Bits.{in_set}
+use Rattle.search.proofs.Barring.{searched_same, barring_set}
 use Rattle.search.proofs.Choosing.{found_once}
-use Rattle.search.specs.Answer.{Searched}
-use Rattle.search.specs.Arcs.{Entries}
+use Rattle.search.specs.Answer.{Searched, barring}
+use Rattle.search.specs.Arcs.{allowed, Entries}
 use Rattle.search.specs.Choice.{Chosen, Finds, Settles, SearchesAlike}
 
 -- trees over arcs that agree on the line
@@ -49,6 +51,22 @@ settles_same f ranges n a b worth room before after heads (Ok None) same told s 
 settles_same f ranges n a b worth room before after heads (Ok (Some w)) same told s =
     λ entries. let f = s (λ h d v le t. entries h d v le (sym (same told.1 h d v) ∙ t)) in
     record { places = f.places; sized = λ h d v le t. f.sized h d v le (same told.1 h d v ∙ t); searched = f.searched; weighed = f.weighed; same = record { stand = λ h d v le. f.same.stand h d v le ∙ same told.1 h d v; weigh = f.same.weigh }; chosen = f.chosen }
+
+-- a search that saw the sets with one of them written anew, less the barred heads, searched the arcs without those
+pub aside_same : {K : Type 0} (f : K → Worth) (ranges : List Range) (n : ℕ) (sets held : List ℕ) (barred rest : ℕ) (worth : ℕ → ℕ → Worth) (room : ℕ → Type 0) (before after : List ℕ) (r : Result (Option K) Refusal) {seen : List ℕ} →
+    length held < length sets → ((v : ℕ) → in_set rest v ≡ (in_set (get_or sets (length held) 0) v && not (in_set barred v))) → seen ≡ set sets (length held) rest →
+    Searched f ranges n (allowed seen held) worth (room (length seen)) before after r → Settles ranges n (allowed seen held) worth (take n after) r →
+    Searched f ranges n (barring (allowed sets held) (length held + 1) barred) worth (room (length sets)) before after r × Settles ranges n (barring (allowed sets held) (length held + 1) barred) worth (take n after) r
+aside_same f ranges n sets held barred rest worth room before after r lt is seen told settles =
+    let less : List ℕ = set sets (length held) rest in
+    let b : ℕ → ℕ → Bool = barring (allowed sets held) (length held + 1) barred in
+    let over : List ℕ → ℕ → Type 0 = λ xs k. Searched f ranges n (allowed xs held) worth (room k) before after r in
+    let found : over less (length less) = subst (λ (xs : List ℕ). over xs (length xs)) seen told in
+    let finds : Settles ranges n (allowed less held) worth (take n after) r = subst (λ (xs : List ℕ). Settles ranges n (allowed xs held) worth (take n after) r) seen settles in
+    let arcs : (h d : ℕ) → Word n d → allowed less held h d ≡ b h d = λ h d v. barring_set n sets held barred rest h d lt is v in (
+      searched_same f ranges n (allowed less held) b worth (room (length sets)) before after r (λ _. arcs) (subst (over less) (length-set sets (length held) rest) found),
+      settles_same f ranges n (allowed less held) b worth (room (length less)) before after (take n after) r (λ _. arcs) found finds,
+    )
 
 -- ---- two searches of the same arcs
 pub searches_alike : {K : Type 0} (f : K → Worth) (ranges : List Range) → SearchesAlike f ranges
