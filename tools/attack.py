@@ -4,7 +4,7 @@
 usage: python3 tools/attack.py [NAME..]          at the top of the repository, with the crates named proved by `rt check`: tries what has no `by`
        python3 tools/attack.py --anew [NAME..]   tries all
        python3 tools/attack.py --seed S NAME..   plants a simple bug by chance in each function, and lists those that no contract refuses, with what a run shows
-       python3 tools/attack.py --table           writes the tables of docs/ATTACKS.md anew, from attacks/*.txt, and lists the bugs that no longer fit the code
+       python3 tools/attack.py --table [NAME..]  prints the bugs of attacks/*.txt with what refuses each, the bugs that no longer fit the code, and the counts
 
 attacks/NAME.txt holds the bugs of a crate, parted by empty lines. A bug is
 
@@ -15,9 +15,10 @@ attacks/NAME.txt holds the bugs of a crate, parted by empty lines. A bug is
     by: what refuses it
 
 with more pairs of old and new where one does not do. `by` is written by this script: the function and the clause that is not
-proved, or the test or stored output that differs. A bug that nothing refuses has `by: NOTHING`. A line `kept: NAME` says that the
-bug is the must-fail edit NAME, and `mended: ..` what was strengthened for it; both are written by hand. Lines that begin with `# ` tell
-what holds of the whole file.
+proved, or the test or stored output that differs. A bug that nothing refuses has `by: NOTHING`. Two refusals say little of the contract:
+`FORM ALONE`, where a proof file only names what the bug took away, and `LIMIT ALONE`, where the prover met a limit of its own and gave no
+verdict. What a run of `.ci/ends` sees, `by: .ci/ends: ..`, is written by hand, and so are a line `kept: NAME`, which says that the bug is the
+must-fail edit NAME, and a line `mended: ..`, which says what was strengthened for it. Lines that begin with `# ` tell what holds of the whole file.
 """
 import glob
 import os
@@ -59,7 +60,18 @@ def function_at(crate, place, number):
     return place
 
 
-def refused_by(crate, note):
+# What rt says of a refusal that tells little of the contract, and how it is written behind `by:`.
+ALONE = [('only because a proof file names what the edit took away', 'FORM ALONE'), ('only by a limit of the prover', 'LIMIT ALONE')]
+
+
+def refused_by(crate, said):
+    """What refuses a bug, by what rt says of it."""
+    note = said.split('note:')[-1]
+    alone = next((word for told, word in ALONE if told in said), None)
+    return f'{alone}: {first_error(crate, note)}' if alone else first_error(crate, note)
+
+
+def first_error(crate, note):
     """The function and clause that the prover's first error names."""
     found = re.search(r'((?:src|proofs|specs)/[\w/+]+\.(?:rt|antt)):(\d+):\d+: (.*)', note)
     if not found:
@@ -167,11 +179,13 @@ def attack(crate, anew):
         elif note is None:
             by = 'NOT TRIED'
         elif note.startswith('refused'):
-            by = refused_by(crate, note.split('note:')[-1] if 'note:' in note else note)
+            by = refused_by(crate, note)
         elif 'BAD' in note:
             by = note
         else:
-            by = run_with(crate, bug) or 'NOTHING'
+            # what the script of the gate sees is written by hand
+            was = line_of(bug, 'by') or ''
+            by = run_with(crate, bug) or (was if was.startswith('.ci/') else 'NOTHING')
         if i in said:
             print(f'{crate}: {line_of(bug, "bug")}: {by}', flush=True)
         rest = [line for line in bug if not line.startswith('by: ')]
@@ -274,36 +288,76 @@ def cell(text):
 
 def misfits(crate, bug):
     """The texts of a bug that do not stand once in their file."""
-    text = open(file_of(crate, line_of(bug, 'file'))).read()
+    path = file_of(crate, line_of(bug, 'file'))
+    text = open(path).read() if os.path.exists(path) else ''
     return [line[5:] for line in bug if line.startswith('old: ') and text.count(line[5:]) != 1]
 
 
-def table():
-    path = 'docs/ATTACKS.md'
-    mark = '<!-- tables -->\n'
-    head = open(path).read().split(mark)[0]
+# A line that defines: a constant, a definition, a clause, the number of a variant.
+DEFINES = r'\s*(pub(\(\w+\))? )?(const|static|ghost|ensures|requires)\b|\s*[A-Z]\w* = \d+,'
+
+
+def changes_definition(crate, bug):
+    """Whether a bug changes definitions and constants alone, and no code: what refuses it rests on them, and that says little of the contracts."""
+    place = line_of(bug, 'file')
+    path = file_of(crate, place)
+    if not place.startswith('src/') or not os.path.exists(path):
+        return not place.startswith('src/')
+    lines = open(path).read().split('\n')
+    olds = [line[5:] for line in bug if line.startswith('old: ')]
+    return all(re.match(DEFINES, next((line for line in lines if old in line), old)) for old in olds)
+
+
+# What refuses a bug, by how what stands behind `by:` begins; else a contract or a law does.
+FRONTS = [('FORM ALONE', 'form alone'), ('LIMIT ALONE', 'limit alone'), ('NOTHING', 'nothing'), ('NOT TRIED', 'not tried'), ('BAD', 'not tried'), ('test ', 'a run'),
+          ('the stored output', 'a run'), ('.ci/', 'a run')]
+VERDICTS = ['a contract', 'a run', 'form alone', 'limit alone', 'nothing', 'not tried']
+
+
+def verdict(bug):
+    by = line_of(bug, 'by') or 'NOT TRIED'
+    return next((kind for front, kind in FRONTS if by.startswith(front)), 'a contract')
+
+
+def listed(words):
+    return '| ' + ' | '.join(cell(str(word)) for word in words) + ' |'
+
+
+def table(names):
     crates = [line.split(':')[0].split()[0] for line in open('crates.txt') if line.strip() and not line.startswith('#')]
-    parts = []
+    unfit, counts = [], []
     for crate in crates:
-        if not os.path.exists(f'attacks/{crate}.txt'):
+        if not os.path.exists(f'attacks/{crate}.txt') or names and crate not in names:
             continue
         bugs = read_bugs(f'attacks/{crate}.txt')
         notes = [line[2:] for line in open(f'attacks/{crate}.txt').read().split('\n') if line.startswith('# ')]
-        rows = [f'### `{crate}` ({len(bugs)})', ''] + [note + '\n' for note in notes] + ['| bug | refused by |', '|---|---|']
+        print(f'### `{crate}` ({len(bugs)})\n')
+        for note in notes:
+            print(note + '\n')
+        print('| bug | refused by |\n|---|---|')
         for bug in bugs:
             if misfits(crate, bug):
-                print(f'{crate}: {line_of(bug, "bug")}: no longer fits the code: {misfits(crate, bug)}')
-            by = line_of(bug, 'by') or 'NOT TRIED'
-            mended = line_of(bug, 'mended')
-            kept = line_of(bug, 'kept')
-            also = (f'; strengthened: {mended}' if mended else '') + (f'; kept as `{kept}`' if kept else '')
-            rows.append(f'| {cell(line_of(bug, "bug"))} | {cell(by + also)} |')
-        parts.append('\n'.join(rows))
-    open(path, 'w').write(head + mark + '\n' + '\n\n'.join(parts) + '\n')
+                unfit.append(f'- {crate}: {line_of(bug, "bug")}: {misfits(crate, bug)}')
+            also = [f'{what} {line_of(bug, word)}' for word, what in [('mended', 'strengthened:'), ('kept', 'kept as')] if line_of(bug, word)]
+            print(listed([line_of(bug, 'bug'), '; '.join([line_of(bug, 'by') or 'NOT TRIED'] + also)]))
+        print()
+        defined = [bug for bug in bugs if changes_definition(crate, bug)]
+        in_code = [bug for bug in bugs if bug not in defined]
+        told = [sum(verdict(bug) == kind for bug in in_code) for kind in VERDICTS]
+        seen = sum(verdict(bug) in ('a contract', 'a run') for bug in defined)
+        counts.append([crate, len(in_code)] + told + [len(defined), seen])
+    print('### Bugs that no longer fit the code\n')
+    print('\n'.join(unfit or ['None.']) + '\n')
+    print('### How many bugs are refused by what\n')
+    print('Bugs that change a definition or a constant alone, and no code, are counted apart.\n')
+    print(listed(['crate', 'bugs in code'] + VERDICTS + ['in definitions and constants', 'refused']))
+    print('|' + '---|' * (4 + len(VERDICTS)))
+    for row in counts + [['all'] + [sum(column) for column in list(zip(*counts))[1:]]]:
+        print(listed([word or '' for word in row]))
 
 
-if sys.argv[1:] == ['--table']:
-    table()
+if sys.argv[1:2] == ['--table']:
+    table(sys.argv[2:])
 elif sys.argv[1:2] == ['--seed']:
     for name in sys.argv[3:]:
         by_chance(name, int(sys.argv[2]))

@@ -3,7 +3,7 @@ use Rattle.std.proofs.Common.{◌≡◌, ℕ, Bool, true, false, cond, not, ◌&
 use Rattle.std.proofs.lemmas.Bool.{eq-eqb, eqb-true, and_parts, and_from, cond-true}
 use Rattle.weight.specs.Worth.{Worth, plus, minus, AtMost}
 use Rattle.arborescence.specs.Sum.{sum_if}
-use Rattle.arborescence.specs.Search.{Tree, tree_worth, Sets, leads, Leader, Into, Covers, Opt, merged, raised, Union, None}
+use Rattle.arborescence.specs.Search.{Tree, worth_of_heads, Sets, leads, Leader, Into, Covers, Opt, merged, raised, Union, None}
 use Rattle.weight.proofs.Worths.{plus_none, at_most_trans, at_most_plus, minus_plus_over}
 use Rattle.arborescence.proofs.Sums.{sorts, through, at_most_eq, sum_le, sum_same, sum_split, sum_le_but}
 use Rattle.arborescence.proofs.Merged.{leader_from, entry, some_entry, at_s, not_in_S, same_side, finer, entered, merged_sum}
@@ -68,13 +68,13 @@ module _
     outside_same ℓ lead f = let g = (outer ℓ lead f).1 in cc
 
     -- a merge keeps `Opt`
-    pub merge : Opt n stands worth rep add → AtMost (tree_worth worth head n) (sum_if (leads (merged S s rep)) term' n)
+    pub merge : Opt n stands worth rep add → AtMost (worth_of_heads worth head n) (sum_if (leads (merged S s rep)) term' n)
     merge opt =
         let o : Worth = sum_if (λ ℓ. leads rep ℓ && not (S ℓ)) term n in
         let x : Worth = worth (head d) d in
         let t : Worth = plus (add d) (sum_if inner best n) in
         let k' : Worth = raised S n rep add best d in
-        let h₁ : AtMost (tree_worth worth head n) (plus (sum_if inner term n) o) = subst (AtMost _) (sum_split (leads rep) S term n) (opt head tree c c_choice) in
+        let h₁ : AtMost (worth_of_heads worth head n) (plus (sum_if inner term n) o) = subst (AtMost _) (sum_split (leads rep) S term n) (opt head tree c c_choice) in
         let tj : term j ≡ plus x (add d) = ap (λ (v : ℕ). plus (worth (head v) v) (add v)) c_j in
         let h₂ : AtMost (plus (sum_if inner term n) (best j)) (plus (plus x (add d)) (sum_if inner best n)) = rw tj at within in
         let is : k' ≡ minus t (best j) = cond-true (S d) _ (add d) d_in.0 in
@@ -90,7 +90,7 @@ start n stands worth head tree c choice =
 
 -- no tree is worth more than the best arcs of all the sets
 pub end : (n : ℕ) (stands : ℕ → ℕ → Bool) (worth : ℕ → ℕ → Worth) (rep : ℕ → ℕ) (add best : ℕ → Worth) → Sets n rep → ((ℓ : ℕ) → Leader n rep ℓ → Covers n stands worth rep add ℓ (best ℓ)) →
-    Opt n stands worth rep add → (head : ℕ → ℕ) → Tree n stands head → AtMost (tree_worth worth head n) (sum_if (leads rep) best n)
+    Opt n stands worth rep add → (head : ℕ → ℕ) → Tree n stands head → AtMost (worth_of_heads worth head n) (sum_if (leads rep) best n)
 end n stands worth rep add best sets covers opt head tree =
     let c : ℕ → ℕ = λ ℓ. (some_entry n stands head rep sets tree ℓ).0 in
     let choice : (ℓ : ℕ) → Leader n rep ℓ → Into n stands rep ℓ (head (c ℓ)) (c ℓ) = λ ℓ. (some_entry n stands head rep sets tree ℓ).1 in

@@ -4,7 +4,7 @@ use Rattle.std.proofs.lemmas.Bool.{cases_eq, cases_Bool, eq-eqb, eqb-true, ne_eq
 use Rattle.weight.specs.Worth.{Worth, plus, minus, AtMost}
 use Rattle.tree.specs.Chains.{Word, up, Reaches}
 use Rattle.arborescence.specs.Sum.{sum_if}
-use Rattle.arborescence.specs.Search.{Tree, tree_worth, Sets, leads, Leader, Into, arcs_worth, Built, merged, raised, Union, Circle}
+use Rattle.arborescence.specs.Search.{Tree, worth_of_heads, Sets, leads, Leader, Into, arcs_worth, Built, merged, raised, Union, Circle}
 use Rattle.weight.proofs.Worths.{plus_none, at_most_plus, minus_plus_under}
 use Rattle.arborescence.proofs.Sums.{sorts, through, sum_same, sum_split, sum_le_but}
 use Rattle.arborescence.proofs.Merged.{leader_from, at_s, in_S, not_in_S, same_side, coarser, finer, entered, rep_le, merged_sets, merged_sum}
@@ -181,12 +181,12 @@ module _
     unmerge_out = at_outer
 
 -- arcs into the words one by one make a tree
-pub bottom_from : (n : ℕ) (stands : ℕ → ℕ → Bool) (worth : ℕ → ℕ → Worth) (goal : Worth) (built : Built n stands worth (λ w. w) (λ w. []) goal) → Tree n stands built.from × AtMost goal (tree_worth worth built.from n)
+pub bottom_from : (n : ℕ) (stands : ℕ → ℕ → Bool) (worth : ℕ → ℕ → Worth) (goal : Worth) (built : Built n stands worth (λ w. w) (λ w. []) goal) → Tree n stands built.from × AtMost goal (worth_of_heads worth built.from n)
 bottom_from n stands worth goal built =
     (record { in_line = λ w k. (arc w k).in_line; reaches = λ w k. built.arrives w (record { word = k; own = refl }); standing = λ w k. rw (arc w k).inside at (arc w k).standing }, rw same at built.enough)
   where
     arc : (w : ℕ) → Word n w → Into n stands (λ v. v) w (built.from w) (built.to w)
     arc w k = built.arc w (record { word = k; own = refl })
 
-    same : arcs_worth n worth (λ v. v) (λ v. []) built.from built.to ≡ tree_worth worth built.from n
+    same : arcs_worth n worth (λ v. v) (λ v. []) built.from built.to ≡ worth_of_heads worth built.from n
     same = sum_same (leads (λ v. v)) (λ v. true) (λ ℓ. plus (worth (built.from ℓ) (built.to ℓ)) []) (λ v. worth (built.from v) v) n (λ v k. eq-eqb v v refl) (λ v k t. rw (arc v k).inside (plus_none (worth (built.from v) v)))

@@ -7,8 +7,8 @@ use Rattle.std.proofs.lemmas.List.FromFn.{length-map-range_with_len, get_or-map-
 use Rattle.weight.specs.Worth.{Worth, plus, at_most, AtMost}
 use Rattle.tree.specs.Chains.{Word, up, head_of, Reaches}
 use Rattle.arborescence.specs.Sum.{count_if}
-use Rattle.arborescence.specs.Search.{Tree, tree_worth}
-use Rattle.arborescence.specs.Heads.{TreeOver, worth_from, rooted, OneRoot, Single, BestSingle}
+use Rattle.arborescence.specs.Search.{Tree, worth_of_heads}
+use Rattle.arborescence.specs.Heads.{TreeOver, worth_from, rooted, OneRoot, ByRootLayer, BestSingle}
 use Rattle.weight.proofs.Worths.{plus_none, plus_assoc, plus_left_comm, leads_out}
 use Rattle.tree.proofs.Chains.{enters, arrives, never_again}
 use Rattle.arborescence.proofs.Totals as totals
@@ -19,7 +19,7 @@ abbrev on_root : (ℕ → ℕ) → ℕ → ℕ
 on_root head n = count_if (λ w. eqb (head w) 0) (λ w. 1) n
 
 -- the place in front is the number of words on the root, below 0
-front : (worth : ℕ → ℕ → Worth) (head : ℕ → ℕ) (n : ℕ) → tree_worth (rooted worth) head (suc n) ≡ neg_ℤ (pos (on_root head (suc n))) ∷ tree_worth worth head (suc n)
+front : (worth : ℕ → ℕ → Worth) (head : ℕ → ℕ) (n : ℕ) → worth_of_heads (rooted worth) head (suc n) ≡ neg_ℤ (pos (on_root head (suc n))) ∷ worth_of_heads worth head (suc n)
 front worth head zero = by (eqb (head 1) 0) (worth (head 1) 1)
   where
     by : (b : Bool) (x : Worth) → ◌≡◌ {A = Worth} (cond b (negsuc 0) (pos 0) ∷ x) (neg_ℤ (pos (cond b 1 0 + 0)) ∷ plus x [])
@@ -75,20 +75,20 @@ roots n stands head le tree =
         let t : but (λ w. eqb (head w) 0) d w ≡ true = let q = eq-eqb (head w) 0 z in let q' = ne_eqb w d e in cc in
         absurd (omega (arith, count_out (but (λ w. eqb (head w) 0) d) (λ w. 1) n w v t))
 
-pub single : Single
+pub single : ByRootLayer
 single zero stands worth head le tree best other tree' one = absurd (omega arith)
 single (suc n) stands worth head le tree best other tree' one =
     let r = roots (suc n) stands head le tree in
-    let b : AtMost (neg_ℤ (pos (on_root other (suc n))) ∷ tree_worth worth other (suc n)) (neg_ℤ (pos (on_root head (suc n))) ∷ tree_worth worth head (suc n)) = rw (← front worth other n, ← front worth head n) (best other tree') in
-    let k = compare r.0 (tree_worth worth other (suc n)) (tree_worth worth head (suc n)) (rw (one_on_root (suc n) other one, r.1) at b) in
+    let b : AtMost (neg_ℤ (pos (on_root other (suc n))) ∷ worth_of_heads worth other (suc n)) (neg_ℤ (pos (on_root head (suc n))) ∷ worth_of_heads worth head (suc n)) = rw (← front worth other n, ← front worth head n) (best other tree') in
+    let k = compare r.0 (worth_of_heads worth other (suc n)) (worth_of_heads worth head (suc n)) (rw (one_on_root (suc n) other one, r.1) at b) in
     (r.2 k.0, k.1)
 
 -- ---- the place in front tells whether one word hangs on the root
-pub front_of_one : (n : ℕ) (worth : ℕ → ℕ → Worth) (head : ℕ → ℕ) → 1 ≤ n → OneRoot n head → tree_worth (rooted worth) head n ≡ negsuc 0 ∷ tree_worth worth head n
+pub front_of_one : (n : ℕ) (worth : ℕ → ℕ → Worth) (head : ℕ → ℕ) → 1 ≤ n → OneRoot n head → worth_of_heads (rooted worth) head n ≡ negsuc 0 ∷ worth_of_heads worth head n
 front_of_one zero worth head le one = absurd (omega arith)
-front_of_one (suc n) worth head le one = front worth head n ∙ ap (λ (k : ℕ). neg_ℤ (pos k) ∷ tree_worth worth head (suc n)) (one_on_root (suc n) head one)
+front_of_one (suc n) worth head le one = front worth head n ∙ ap (λ (k : ℕ). neg_ℤ (pos k) ∷ worth_of_heads worth head (suc n)) (one_on_root (suc n) head one)
 
-pub one_by_front : (n : ℕ) (stands : ℕ → ℕ → Bool) (worth : ℕ → ℕ → Worth) (head : ℕ → ℕ) → 1 ≤ n → Tree n stands head → get_or (tree_worth (rooted worth) head n) 0 (pos 0) ≡ negsuc 0 → OneRoot n head
+pub one_by_front : (n : ℕ) (stands : ℕ → ℕ → Bool) (worth : ℕ → ℕ → Worth) (head : ℕ → ℕ) → 1 ≤ n → Tree n stands head → get_or (worth_of_heads (rooted worth) head n) 0 (pos 0) ≡ negsuc 0 → OneRoot n head
 one_by_front zero stands worth head le tree e = absurd (omega arith)
 one_by_front (suc n) stands worth head le tree e =
     let c : neg_ℤ (pos (on_root head (suc n))) ≡ negsuc 0 = sym (ap (λ (x : Worth). get_or x 0 (pos 0)) (front worth head n)) ∙ e in
@@ -96,13 +96,13 @@ one_by_front (suc n) stands worth head le tree e =
     r.2 (omega (arith, ints, c, r.1))
 
 -- ---- lists of heads
-from_is : (worth : ℕ → ℕ → Worth) (head : ℕ → ℕ) (hs : List ℕ) (m : ℕ) → ((i : ℕ) → i < length hs → get_or hs i 0 ≡ head (suc m + i)) → plus (tree_worth worth head m) (worth_from worth (suc m) hs) ≡ tree_worth worth head (m + length hs)
-from_is worth head [] m at = let e : m + 0 ≡ m = omega arith in cc (plus_none (tree_worth worth head m))
+from_is : (worth : ℕ → ℕ → Worth) (head : ℕ → ℕ) (hs : List ℕ) (m : ℕ) → ((i : ℕ) → i < length hs → get_or hs i 0 ≡ head (suc m + i)) → plus (worth_of_heads worth head m) (worth_from worth (suc m) hs) ≡ worth_of_heads worth head (m + length hs)
+from_is worth head [] m at = let e : m + 0 ≡ m = omega arith in cc (plus_none (worth_of_heads worth head m))
 from_is worth head (h ∷ hs) m at =
     let e : h ≡ head (suc m) = at 0 (omega arith) ∙ ap head (omega arith) in
-    let r : plus (plus (worth (head (suc m)) (suc m)) (tree_worth worth head m)) (worth_from worth (suc (suc m)) hs) ≡ tree_worth worth head (suc m + length hs) = from_is worth head hs (suc m) (λ i l. at (suc i) (omega arith) ∙ ap head (omega arith)) in
+    let r : plus (plus (worth (head (suc m)) (suc m)) (worth_of_heads worth head m)) (worth_from worth (suc (suc m)) hs) ≡ worth_of_heads worth head (suc m + length hs) = from_is worth head hs (suc m) (λ i l. at (suc i) (omega arith) ∙ ap head (omega arith)) in
     let q : suc m + length hs ≡ m + suc (length hs) = omega arith in
-    let t : Worth = tree_worth worth head m in
+    let t : Worth = worth_of_heads worth head m in
     let x : Worth = worth (head (suc m)) (suc m) in
     let y : Worth = worth_from worth (suc (suc m)) hs in
     let z : plus t (plus x y) ≡ plus (plus x t) y = plus_left_comm t x y ∙ sym (plus_assoc x t y) in
@@ -110,13 +110,13 @@ from_is worth head (h ∷ hs) m at =
 
 -- the tree of a list of heads, and its worth
 pub read : (n : ℕ) (stands : ℕ → ℕ → Bool) (worth : ℕ → ℕ → Worth) (heads : List ℕ) → TreeOver n stands heads →
-    Tree n stands (head_of heads) × OneRoot n (head_of heads) × (worth_from worth 1 heads ≡ tree_worth worth (head_of heads) n)
+    Tree n stands (head_of heads) × OneRoot n (head_of heads) × (worth_from worth 1 heads ≡ worth_of_heads worth (head_of heads) n)
 read n stands worth heads t =
     let shape = t.shape.shape in
     let top = t.shape.top in (
       record { in_line = shape.in_line; reaches = λ w v. let r = arrives n (head_of heads) refl shape.in_line w v (shape.no_cycle w v) in (r.0, r.2); standing = t.standing },
       record { root = t.shape.root; word = top.word; hangs = top.hangs; only = top.only },
-      from_is worth (head_of heads) heads 0 (λ i l. let q : suc i ≡ 1 + i = omega arith in ap (head_of heads) q) ∙ ap (tree_worth worth (head_of heads)) (omega (arith, shape.sized)),
+      from_is worth (head_of heads) heads 0 (λ i l. let q : suc i ≡ 1 + i = omega arith in ap (head_of heads) q) ∙ ap (worth_of_heads worth (head_of heads)) (omega (arith, shape.sized)),
     )
 
 abbrev listed : (ℕ → ℕ) → ℕ → List ℕ
@@ -137,7 +137,7 @@ module _ (n : ℕ) (head list : ℕ → ℕ) (in_line : (w : ℕ) → Word n w �
 
 -- a list that has the heads of a tree with one word on the root
 pub written_as : (n : ℕ) (stands : ℕ → ℕ → Bool) (worth : ℕ → ℕ → Worth) (head : ℕ → ℕ) (heads : List ℕ) → length heads ≡ n → ((w : ℕ) → Word n w → head_of heads w ≡ head w) → Tree n stands head → OneRoot n head →
-    TreeOver n stands heads × (worth_from worth 1 heads ≡ tree_worth worth head n)
+    TreeOver n stands heads × (worth_from worth 1 heads ≡ worth_of_heads worth head n)
 written_as n stands worth head heads sized same tree one = (
   record {
     shape = record {
@@ -151,7 +151,7 @@ written_as n stands worth head heads sized same tree one = (
     };
     standing = λ w v. rw (same w v) (tree.standing w v);
   },
-  from_is worth head heads 0 (λ i l. same (suc i) (omega (arith, sized)) ∙ (let q : suc i ≡ 1 + i = omega arith in ap head q)) ∙ ap (tree_worth worth head) (omega (arith, sized)),
+  from_is worth head heads 0 (λ i l. same (suc i) (omega (arith, sized)) ∙ (let q : suc i ≡ 1 + i = omega arith in ap head q)) ∙ ap (worth_of_heads worth head) (omega (arith, sized)),
 )
 
 pub best_single : BestSingle

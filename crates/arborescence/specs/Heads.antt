@@ -3,7 +3,7 @@ use Rattle.std.specs.Prelude.{◌≡◌, ℕ, suc, ◌≤◌, Bool, true, cond, 
 use Rattle.weight.specs.Worth.{Worth, plus, AtMost}
 use Rattle.tree.specs.Chains.{Word, head_of}
 use Rattle.tree.specs.Trees.{SingleRootTree}
-use Rattle.arborescence.specs.Search.{Tree, tree_worth}
+use Rattle.arborescence.specs.Search.{Tree, worth_of_heads}
 
 -- a single-root tree of n words that uses only arcs that stand
 pub record TreeOver (n : ℕ) (stands : ℕ → ℕ → Bool) (heads : List ℕ) : Type 0 where
@@ -26,16 +26,16 @@ pub record OneRoot (n : ℕ) (head : ℕ → ℕ) : Type 0 where
   pub only : (w : ℕ) → Word n w → head w ≡ 0 → w ≡ root
 
 -- the best of all trees by those worths: if there is a tree with one word on the root, then this is such a tree, and the best of them
-abbrev pub Single : Type 0
-Single =
+abbrev pub ByRootLayer : Type 0
+ByRootLayer =
     (n : ℕ) (stands : ℕ → ℕ → Bool) (worth : ℕ → ℕ → Worth) (head : ℕ → ℕ) → 1 ≤ n → Tree n stands head →
-    ((other : ℕ → ℕ) → Tree n stands other → AtMost (tree_worth (rooted worth) other n) (tree_worth (rooted worth) head n)) →
-    (other : ℕ → ℕ) → Tree n stands other → OneRoot n other → OneRoot n head × AtMost (tree_worth worth other n) (tree_worth worth head n)
+    ((other : ℕ → ℕ) → Tree n stands other → AtMost (worth_of_heads (rooted worth) other n) (worth_of_heads (rooted worth) head n)) →
+    (other : ℕ → ℕ) → Tree n stands other → OneRoot n other → OneRoot n head × AtMost (worth_of_heads worth other n) (worth_of_heads worth head n)
 
 -- the best tree by the worths with that place, as a list: if any list is a tree with one word on the root, it is the best of those
 abbrev pub BestSingle : Type 0
 BestSingle =
     (n : ℕ) (stands : ℕ → ℕ → Bool) (worth : ℕ → ℕ → Worth) (head : ℕ → ℕ) → 1 ≤ n → Tree n stands head →
-    ((other : ℕ → ℕ) → Tree n stands other → AtMost (tree_worth (rooted worth) other n) (tree_worth (rooted worth) head n)) →
+    ((other : ℕ → ℕ) → Tree n stands other → AtMost (worth_of_heads (rooted worth) other n) (worth_of_heads (rooted worth) head n)) →
     (some : List ℕ) → TreeOver n stands some →
     (heads : List ℕ) × TreeOver n stands heads × ((other : List ℕ) → TreeOver n stands other → AtMost (worth_from worth 1 other) (worth_from worth 1 heads))

@@ -11,8 +11,8 @@ pub record Tree (n : ℕ) (stands : ℕ → ℕ → Bool) (head : ℕ → ℕ) :
   pub reaches : (w : ℕ) → Word n w → Reaches head w
   pub standing : (w : ℕ) → Word n w → stands (head w) w ≡ true
 
-abbrev pub tree_worth : (ℕ → ℕ → Worth) → (ℕ → ℕ) → ℕ → Worth
-tree_worth worth head n = sum_if (λ w. true) (λ w. worth (head w) w) n
+abbrev pub worth_of_heads : (ℕ → ℕ → Worth) → (ℕ → ℕ) → ℕ → Worth
+worth_of_heads worth head n = sum_if (λ w. true) (λ w. worth (head w) w) n
 
 -- ---- sets
 
@@ -48,7 +48,7 @@ arcs_worth n worth rep add from to = sum_if (leads rep) (λ ℓ. plus (worth (fr
 abbrev pub Opt : (n : ℕ) (stands : ℕ → ℕ → Bool) (worth : ℕ → ℕ → Worth) (rep : ℕ → ℕ) (add : ℕ → Worth) → Type 0
 Opt n stands worth rep add =
     (head : ℕ → ℕ) → Tree n stands head → (c : ℕ → ℕ) → ((ℓ : ℕ) → Leader n rep ℓ → Into n stands rep ℓ (head (c ℓ)) (c ℓ)) →
-    AtMost (tree_worth worth head n) (arcs_worth n worth rep add (λ ℓ. head (c ℓ)) c)
+    AtMost (worth_of_heads worth head n) (arcs_worth n worth rep add (λ ℓ. head (c ℓ)) c)
 
 -- below: arcs, one into each set, by which every set arrives at the root, and that are worth `goal` at least
 pub record Built (n : ℕ) (stands : ℕ → ℕ → Bool) (worth : ℕ → ℕ → Worth) (rep : ℕ → ℕ) (add : ℕ → Worth) (goal : Worth) : Type 0 where
@@ -110,7 +110,7 @@ BestTree =
     ((ℓ : ℕ) → Leader n rep ℓ → Into n stands rep ℓ (from ℓ) (to ℓ)) →
     ((ℓ : ℕ) → Leader n rep ℓ → AtMost (best ℓ) (plus (worth (from ℓ) (to ℓ)) (add (to ℓ)))) →
     ((ℓ : ℕ) → Leader n rep ℓ → Reaches (λ i. rep (from i)) ℓ) →
-    (head : ℕ → ℕ) × Tree n stands head × ((other : ℕ → ℕ) → Tree n stands other → AtMost (tree_worth worth other n) (tree_worth worth head n))
+    (head : ℕ → ℕ) × Tree n stands head × ((other : ℕ → ℕ) → Tree n stands other → AtMost (worth_of_heads worth other n) (worth_of_heads worth head n))
 
 -- ---- for the code that does it
 -- what a set outside S has found stays true when the sets in S are merged

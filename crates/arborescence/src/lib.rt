@@ -2,10 +2,10 @@
 #![tactic(auto)]
 
 ghost use Rattle.arborescence.specs.Bounds.{SizedMerge};
-ghost use Rattle.arborescence.specs.Heads.{Single, BestSingle};
+ghost use Rattle.arborescence.specs.Heads.{ByRootLayer, BestSingle};
 ghost use Rattle.arborescence.specs.Search.{None, GoodStart, GoodMerge, BestTree, Kept};
 
-// What holds of every set of arcs, whatever they weigh.
+/// What holds of every set of arcs, whatever they weigh.
 pub fn laws()
     ensures none { None }
     ensures start { GoodStart }
@@ -13,6 +13,6 @@ pub fn laws()
     ensures kept { Kept }
     ensures best { BestTree }
     ensures bounds { SizedMerge }
-    ensures single { Single }
+    ensures single { ByRootLayer }
     ensures heaviest { BestSingle }
 {}

@@ -2,7 +2,7 @@
 ghost use Rattle.bench.specs.Numbering.{digit};
 ghost use Rattle.std.specs.Prelude.{◌≡◌, ℕ, ◌+◌, ◌^◌, ◌<◌, length, slice_index};
 
-// How many lists of so many heads there are.
+/// How many lists of so many heads there are.
 pub fn lists(words: u8) -> usize
     ensures { (words + 1) ^ words < 2 ^ 64 → result ≡ (words + 1) ^ words }
 {
@@ -10,7 +10,7 @@ pub fn lists(words: u8) -> usize
     base.checked_pow(u32::from(words)).unwrap_or(0)
 }
 
-// The list of heads with this number: its digits, to a base of one more than the words.
+/// The list of heads with this number: its digits, to a base of one more than the words.
 pub fn list(number: usize, words: u8) -> [u8; 5]
     ensures { (place : ℕ) → place < 5 → slice_index result place ≡ digit (words + 1) place number }
 {

@@ -6,7 +6,7 @@ use std::alloc::{AllocError, Global};
 use tree::check_heads;
 use weight::Kind;
 
-// Which arcs stand, each with its weight, told from the puts and strikes alone.
+/// Which arcs stand, each with its weight, told from the puts and strikes alone.
 #[derive(Drop)]
 pub struct Plain<K> {
     pub words: usize,
@@ -22,7 +22,7 @@ fn place(head: usize, dependent: usize) -> usize
 }
 
 impl<K: Kind + Copy> Plain<K> {
-    // No words and no arcs.
+    /// No words and no arcs.
     pub fn new(heap: Global) -> Result<Plain<K>, AllocError> {
         Ok(Plain {
             words: 0,
@@ -30,7 +30,7 @@ impl<K: Kind + Copy> Plain<K> {
         })
     }
 
-    // A line of so many words with every arc absent.
+    /// A line of so many words with every arc absent.
     pub fn reset(&mut self, words: usize) {
         self.words = words;
         self.arcs.fill(None);
@@ -50,7 +50,7 @@ impl<K: Kind + Copy> Plain<K> {
         Ok(())
     }
 
-    // Puts an arc, or tells which refusal the sheet should tell.
+    /// Puts an arc, or tells which refusal the sheet should tell.
     pub fn put(&mut self, head: usize, dependent: usize, weight: K) -> Result<(), Refusal> {
         self.check(head, dependent)?;
         if !weight.entry() {
@@ -60,14 +60,14 @@ impl<K: Kind + Copy> Plain<K> {
         Ok(())
     }
 
-    // Strikes an arc, or tells which refusal the sheet should tell.
+    /// Strikes an arc, or tells which refusal the sheet should tell.
     pub fn strike(&mut self, head: usize, dependent: usize) -> Result<(), Refusal> {
         self.check(head, dependent)?;
         let arc = self.arcs[place(head, dependent)].take();
         arc.map(drop).ok_or(Refusal::AbsentArc)
     }
 
-    // The weight of a list of heads, if it is a single-root tree of the sheet.
+    /// The weight of a list of heads, if it is a single-root tree of the sheet.
     pub fn weigh(&self, heads: &[u8]) -> Option<K> {
         if heads.len() != self.words || check_heads(heads).is_err() {
             return None;

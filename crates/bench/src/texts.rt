@@ -4,7 +4,7 @@ ghost use Rattle.weight.specs.Text.{text};
 
 use weight::Kind;
 
-// Whether the weight is shown so.
+/// Whether the weight is shown so.
 pub fn shows<K: Kind>(weight: &K, shown: &[u8]) -> bool
     ensures { length (text (K.Kind.worth weight.now)) ≤ 24 → (IsTrue result ↔ (shown.now ≡ text (K.Kind.worth weight.now))) }
 {

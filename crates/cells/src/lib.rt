@@ -7,7 +7,7 @@ ghost use Rattle.cells.specs.Slots.{AllSlotSteps};
 ghost use Rattle.cells.specs.Steps.{AllSteps};
 ghost use Rattle.cells.specs.Words.{Worded};
 
-// What holds of the cells of every set of arcs, whatever they weigh.
+/// What holds of the cells of every set of arcs, whatever they weigh.
 pub fn laws()
     ensures parts { Parts }
     ensures tested { Tested }

@@ -5,14 +5,14 @@ ghost use Rattle.weight.specs.Numbers.{score_worth};
 
 use weight::Score;
 
-// A source of random numbers, which gives the same ones from the same seed.
+/// A source of random numbers, which gives the same ones from the same seed.
 #[derive(Drop)]
 pub struct Random {
     pub seed: u64,
 }
 
 impl Random {
-    // The next number, of 31 bits.
+    /// The next number, of 31 bits.
     pub fn draw(&mut self) -> u32
         ensures seed { self.new.seed ≡ seed_after self.old.seed }
         ensures value { result ≡ drawn_from self.old.seed }
@@ -25,7 +25,7 @@ impl Random {
         (self.seed >> 33) as u32
     }
 
-    // The next number below `most`; 0 if there is none.
+    /// The next number below `most`; 0 if there is none.
     pub fn below(&mut self, most: u8) -> u8
         ensures seed { self.new.seed ≡ seed_after self.old.seed }
         ensures value { 0 < most → result ≡ drawn_from self.old.seed % most }
@@ -36,7 +36,7 @@ impl Random {
         drawn.checked_rem(u32::from(most)).unwrap_or(0) as u8
     }
 
-    // The next score.
+    /// The next score.
     pub fn score(&mut self) -> Score
         ensures seed { self.new.seed ≡ seed_after self.old.seed }
         ensures value { score_worth result ≡ score_from self.old.seed ∷ [] }

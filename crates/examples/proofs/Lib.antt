@@ -1,2 +1,3 @@
+mod Printed
 mod Rows
 mod Trees

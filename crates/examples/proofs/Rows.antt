@@ -3,7 +3,7 @@ use Rattle.std.proofs.Common.{◌≡◌, ℕ, suc, Bool, true, false, not, ◌&&
 use Rattle.cells.proofs.Counts.{at_most_test}
 use Rattle.cells.specs.Accounts.{Among}
 use Rattle.examples.proofs.Trees.{tree_test, every_tree, decides_tree, at_tree}
-use Rattle.examples.specs.Lines.{Line, Told, Ranked, arcs_of, steps_check, FileOf, Row, scores, costs, marks, score_file, no_tree, Right}
+use Rattle.examples.specs.Lines.{WorkedLine, Told, TrueLine, arcs_of, steps_check, FileOf, Printed, WorkedRow, scores, costs, marks, score_file, no_tree, Right}
 use Rattle.file.specs.Formats.{Format, score_format, cost_format, mark_format}
 use Rattle.ranking.specs.Takes.{HandedOut, NoneHanded}
 use Rattle.ranking.specs.Trees.{stands, TreeOf, tree_worth}
@@ -147,18 +147,18 @@ module _ {K : Type 0} (worth : K → Worth) (n : ℕ) (arcs : Arcs K) where
       (handed_out ts t.1 t.0 a.0, only_one ts t.1 t.0 a.0, told (t.1 ∷ ts) trees last a.1)
 
 -- what is computed of a line
-abbrev pub Passes : {K : Type 0} → Format K → (K → Worth) → Line K → Type 0
+abbrev pub Passes : {K : Type 0} → Format K → (K → Worth) → WorkedLine K → Type 0
 Passes f worth line = (steps_check f line.words no_arcs line.steps ≡ None) × (tells worth line.words (arcs_of line) [] line.trees line.last ≡ true)
 
-ranked : {K : Type 0} (f : Format K) (worth : K → Worth) (line : Line K) → Passes f worth line → Ranked f worth line
+ranked : {K : Type 0} (f : Format K) (worth : K → Worth) (line : WorkedLine K) → Passes f worth line → TrueLine f worth line
 ranked f worth line p = record { accepted = p.0; told = told worth line.words (arcs_of line) [] line.trees line.last p.1 }
 
 -- and of a row
-abbrev pub Computed : Row → Type 0
+abbrev pub Computed : WorkedRow → Type 0
 Computed (scores line) = Passes score_format score_worth line
 Computed (costs line) = Passes cost_format cost_worth line
 Computed (marks line) = Passes mark_format (mark_worth score_worth) line
-Computed (score_file file line) = FileOf score_format file line.words (arcs_of line) × Passes score_format score_worth line
+Computed (score_file file line text) = FileOf score_format file line.words (arcs_of line) × Passes score_format score_worth line × Printed score_worth line text
 Computed (no_tree heads) = tree_test (length heads) (λ h d. true) heads ≡ false
 
 no_line : (heads : List ℕ) → tree_test (length heads) (λ h d. true) heads ≡ false → (root : ℕ) → LineTree heads root → ⊥
@@ -166,9 +166,9 @@ no_line heads e root t =
     not_from_Decides (tree_test (length heads) (λ h d. true) heads) (decides_tree (length heads) (λ h d. true) heads) e
     (record { shape = record { shape = t.shape; root = root; top = t.top }; standing = λ w word. refl })
 
-pub right : (row : Row) → Computed row → Right row
+pub right : (row : WorkedRow) → Computed row → Right row
 right (scores line) e = ranked score_format score_worth line e
 right (costs line) e = ranked cost_format cost_worth line e
 right (marks line) e = ranked mark_format (mark_worth score_worth) line e
-right (score_file file line) e = (e.0, ranked score_format score_worth line e.1)
+right (score_file file line text) e = (e.0, ranked score_format score_worth line e.1, e.2)
 right (no_tree heads) e = ((refl, no_line heads e), λ space. inr (no_line heads e, refl, refl))

@@ -1,8 +1,11 @@
--- Worked lines: what is put on a sheet and struck there, and what the takes tell then.
-use Rattle.std.specs.Prelude.{◌≡◌, ℕ, suc, ◌+◌, ◌*◌, List, [], ◌∷◌, length, is_some, Some, None, Ok, Err, Option}
+-- Worked lines: what is put on a sheet and struck there, what the takes tell then, and what is printed of a file.
+use Rattle.std.specs.Prelude.{◌≡◌, ℕ, suc, ◌+◌, ◌*◌, List, [], ◌∷◌, ◌++◌, length, is_some, Some, None, Ok, Err, Option}
 use Rattle.file.specs.Formats.{Format, score_format, cost_format, mark_format}
 use Rattle.file.specs.Reading.{frame_words, record_count}
 use Rattle.file.specs.Records.{put_records, records_check}
+use Rattle.lines.specs.Ends.{ToldEnd}
+use Rattle.lines.specs.Lines.{tree_text, last_text}
+use Rattle.lines.specs.declared.Last.{Last}
 use Rattle.ranking.specs.Takes.{HandedOut, NoneHanded}
 use Rattle.refusal.specs.declared.Refusal.TheVariants.{NotATree}
 use Rattle.refusal.specs.declared.Refusal.{Refusal}
@@ -47,17 +50,17 @@ Told {K} worth n arcs taken (t ∷ trees) last =
     × Told worth n arcs (t.1 ∷ taken) trees last
 
 -- the steps on an empty sheet of so many words, each tree in turn with its weight, and the refusal behind them
-pub record Line (K : Type 0) : Type 0 where
+pub record WorkedLine (K : Type 0) : Type 0 where
   pub words : ℕ
   pub steps : List (Step K)
   pub trees : List (K × List ℕ)
   pub last : Refusal
 
-abbrev pub arcs_of : {K : Type 0} → Line K → Arcs K
+abbrev pub arcs_of : {K : Type 0} → WorkedLine K → Arcs K
 arcs_of line = after line.steps no_arcs
 
 -- no step is refused, and the takes tell what the line has
-pub record Ranked {K : Type 0} (f : Format K) (worth : K → Worth) (line : Line K) : Type 0 where
+pub record TrueLine {K : Type 0} (f : Format K) (worth : K → Worth) (line : WorkedLine K) : Type 0 where
   pub accepted : steps_check f line.words no_arcs line.steps ≡ None
   pub told : Told worth line.words (arcs_of line) [] line.trees line.last
 
@@ -67,17 +70,28 @@ pub record FileOf {K : Type 0} (f : Format K) (file : List ℕ) (n : ℕ) (arcs 
   pub records : records_check f n file 0 (record_count f.width file) ≡ None
   pub standing : (h d : ℕ) → put_records f file 0 (record_count f.width file) no_arcs h d ≡ arcs h d
 
--- a line of one kind of weight, one with a file of its scores, or heads that form no tree
-pub data Row : Type 0 where
-  scores : Line Score → Row
-  costs : Line Cost → Row
-  marks : Line (Mark Score) → Row
-  score_file : List ℕ → Line Score → Row
-  no_tree : List ℕ → Row
+-- a line of text for each tree, numbered on from `number`, and the last one
+abbrev pub texts_from : {K : Type 0} → (K → Worth) → ℕ → List (K × List ℕ) → Last → List ℕ
+texts_from worth number [] last = last_text last
+texts_from worth number (t ∷ trees) last = tree_text number (worth t.0) t.1 ++ texts_from worth (suc number) trees last
 
-abbrev pub Right : Row → Type 0
-Right (scores line) = Ranked score_format score_worth line
-Right (costs line) = Ranked cost_format cost_worth line
-Right (marks line) = Ranked mark_format (mark_worth score_worth) line
-Right (score_file file line) = FileOf score_format file line.words (arcs_of line) × Ranked score_format score_worth line
+-- the text that is printed of the takes
+pub record Printed {K : Type 0} (worth : K → Worth) (line : WorkedLine K) (text : List ℕ) : Type 0 where
+  pub last : Last
+  pub ends : ToldEnd line.last (Ok last)
+  pub whole : texts_from worth 1 line.trees last ≡ text
+
+-- a line of one kind of weight, one with a file of its scores and what is printed of that, or heads that form no tree
+pub data WorkedRow : Type 0 where
+  scores : WorkedLine Score → WorkedRow
+  costs : WorkedLine Cost → WorkedRow
+  marks : WorkedLine (Mark Score) → WorkedRow
+  score_file : List ℕ → WorkedLine Score → List ℕ → WorkedRow
+  no_tree : List ℕ → WorkedRow
+
+abbrev pub Right : WorkedRow → Type 0
+Right (scores line) = TrueLine score_format score_worth line
+Right (costs line) = TrueLine cost_format cost_worth line
+Right (marks line) = TrueLine mark_format (mark_worth score_worth) line
+Right (score_file file line text) = FileOf score_format file line.words (arcs_of line) × TrueLine score_format score_worth line × Printed score_worth line text
 Right (no_tree heads) = Checked heads (Err NotATree) × ((space : List ℕ) → Drawn heads space (Err NotATree) space)

@@ -5,7 +5,7 @@ ghost use Rattle.examples.specs.Lines.{Right};
 ghost use Rattle.examples.specs.Worked.{worked_lines};
 ghost use Rattle.std.specs.List.{AllByRecursion};
 
-// Each line has just the answers that are listed.
+/// Each line has just the answers that are listed.
 pub fn worked_lines()
     ensures { AllByRecursion Right worked_lines }
 {}

@@ -1,3 +1,5 @@
 mod Steps
 mod Fills
+mod Held
 mod Lasts
+mod Numbered

@@ -1,7 +1,7 @@
 -- Steps through the records of a file.
 use Rattle.std.proofs.Common.{◌≡◌, ℕ, zero, suc, ◌+◌, ◌-◌, ◌<◌, cond, List, get_or, Some, None, Ok, Err, Option, Result, sym, refl, ap, ◌∙◌, subst, arith}
 use Rattle.file.specs.Formats.{Format}
-use Rattle.file.specs.Records.{first_of, KeptBeyond, put_record, put_records, record_check, record_place, records_check, Told}
+use Rattle.file.specs.Records.{first_of, KeptBeyond, put_record, put_records, record_check, record_place, records_check, Judged}
 use Rattle.file.specs.declared.fault.RecordFault.{RecordFault}
 use Rattle.sheet.specs.Arcs.{Arcs, arcs_in, named}
 use Rattle.sheet.specs.Calls.{Holds}
@@ -19,11 +19,11 @@ same_puts f file k (suc left) a b same h d =
 
 -- ---- a call that told whether it was refused
 
-pub made : {E T : Type 0} (U D : Type 0) (q : Option E) (x : T) → Told q (Ok x) U D → (q ≡ None) × D
+pub made : {E T : Type 0} (U D : Type 0) (q : Option E) (x : T) → Judged q (Ok x) U D → (q ≡ None) × D
 made U D (Some e) x h = ((cc (h.0)), (cc (h.0)))
 made U D None x h = (refl, h.1)
 
-not_made : {E : Type 0} (T U D : Type 0) (q : Option E) (e : E) → Told {T = T} q (Err e) U D → (q ≡ Some e) × U
+pub not_made : {E : Type 0} (T U D : Type 0) (q : Option E) (e : E) → Judged {T = T} q (Err e) U D → (q ≡ Some e) × U
 not_made T U D (Some e') e h = ((cc (h.0)), h.1)
 not_made T U D None e h = ((cc (h.0)), (cc (h.0)))
 
@@ -40,7 +40,7 @@ module _
     (more : k < count) (weights'' : List K) (sets'' : List ℕ)
   where
     abbrev Record : Result (Unit {0}) RecordFault → Type 0
-    Record r = Told (record_check f n file k) r ((weights'' ≡ weights') × (sets'' ≡ sets')) (Holds n (put_record f file k (arcs_in n weights' sets')) weights' weights'' sets' sets'')
+    Record r = Judged (record_check f n file k) r ((weights'' ≡ weights') × (sets'' ≡ sets')) (Holds n (put_record f file k (arcs_in n weights' sets')) weights' weights'' sets' sets'')
 
     -- the first fault of all records is that of record k, or else that of those behind it
     first : (q : Option RecordFault) → record_check f n file k ≡ q → first_of q (records_check f n file (k + 1) (count - (k + 1))) ≡ records_check f n file 0 count
@@ -58,8 +58,8 @@ module _
           beyond = record { weights_beyond = p.1.weights_beyond ∙ left.beyond.weights_beyond; sets_beyond = p.1.sets_beyond ∙ left.beyond.sets_beyond };
         }
 
-    pub left_refused : (D : Type 0) (r : Result (Unit {0}) RecordFault) (e : RecordFault) → Record (Err e) → r ≡ Err e → Told (records_check f n file 0 count) r (KeptBeyond n weights weights'' sets sets'') D
+    pub left_refused : (D : Type 0) (r : Result (Unit {0}) RecordFault) (e : RecordFault) → Record (Err e) → r ≡ Err e → Judged (records_check f n file 0 count) r (KeptBeyond n weights weights'' sets sets'') D
     left_refused D r e told answer =
         let p = not_made _ _ _ (record_check f n file k) e told in
         let kept : KeptBeyond n weights weights'' sets sets'' = rw (p.1.0, p.1.1) left.beyond in
-        subst (λ q. Told {T = Unit {0}} q r (KeptBeyond n weights weights'' sets sets'') D) (first (Some e) p.0) (answer, kept)
+        subst (λ q. Judged {T = Unit {0}} q r (KeptBeyond n weights weights'' sets sets'') D) (first (Some e) p.0) (answer, kept)

@@ -13,7 +13,7 @@ fault_number Kind = 13
 fault_number (Sheet e) = number_of e
 fault_number (Record f) = number_of f.refusal
 
--- an opening is refused for the number of words, byte 4, or else for the memory, which no byte stands for
+-- an opening is refused for the number of words, byte 4, or else for the memory, and a run for too few turns: no byte stands for those
 abbrev pub opening_place : Refusal → ℕ
 opening_place WordCount = 4
 opening_place _ = 0

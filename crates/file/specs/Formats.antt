@@ -20,8 +20,8 @@ pub record Format (K : Type 0) : Type 0 where
   pub entry : K → Bool
 
 -- the weight in the bytes from a place on, if they are all there
-abbrev pub weight_in : {K : Type 0} → Format K → List ℕ → ℕ → Option K
-weight_in f file at = cond (nat_le (at + f.width) (length file)) (Some (f.weight_at file at)) None
+abbrev pub weight_read : {K : Type 0} → Format K → List ℕ → ℕ → Option K
+weight_read f file at = cond (nat_le (at + f.width) (length file)) (Some (f.weight_at file at)) None
 
 -- the number in the four bytes from a place on, big-endian
 abbrev pub number_at : List ℕ → ℕ → ℕ

@@ -2,23 +2,20 @@
 use Rattle.std.specs.Prelude.{◌≡◌, ℕ, ◌+◌, ◌-◌, ◌/◌, ◌%◌, true, cond, not, ◌||◌, List, length, is_ok, IfOk, Some, None, Ok, Err, Option, Result, ◌==◌, nat_lt, slice_index}
 use Rattle.file.specs.Formats.{Format}
 use Rattle.file.specs.Frame.{kind_of}
+use Rattle.file.specs.Kinds.{kind_number}
 use Rattle.file.specs.Records.{put_records, records_check}
 use Rattle.file.specs.declared.fault.FileFault.TheVariants.{Length, Kind, Sheet as SheetFault, Record}
 use Rattle.file.specs.declared.fault.FileFault.{FileFault}
-use Rattle.file.specs.declared.fault.FileKind.TheVariants.{Score, Cost, Mark}
 use Rattle.file.specs.declared.fault.FileKind.{FileKind}
 use Rattle.file.specs.declared.fault.RecordFault.{RecordFault}
 use Rattle.refusal.specs.declared.Refusal.TheVariants.{WordCount}
 use Rattle.refusal.specs.declared.Refusal.{Refusal}
-use Rattle.sheet.specs.Arcs.{no_arcs}
+use Rattle.sheet.specs.Arcs.{HoldsArcs, no_arcs}
 use Rattle.sheet.specs.Calls.{Holds, open_check}
 use Rattle.sheet.specs.declared.Lengths.{Lengths}
 use Rattle.sheet.specs.declared.Sheet.{Sheet}
-
-abbrev pub kind_number : FileKind → ℕ
-kind_number Score = 1
-kind_number Cost = 2
-kind_number Mark = 3
+use Rattle.weight.specs.Range.{Range}
+use Rattle.weight.specs.Worth.{Worth}
 
 -- the number of words of a file whose kind was told, if that is the reader's, or the first fault:
 -- another kind, not 1 to 40 words, a part record at the end
@@ -60,3 +57,10 @@ FrameRead f l file (Ok n) r weights weights' sets sets' = OpeningRead f n file (
 -- what a reader answers to a file, and what the memory holds afterwards
 abbrev pub ReadAs : {K : Type 0} → Format K → Lengths → List ℕ → Result (Sheet K) FileFault → (weights weights' : List K) → (sets sets' : List ℕ) → Type 0
 ReadAs f l file r weights weights' sets sets' = FrameRead f l file (frame_words f.kind f.width file) r weights weights' sets sets'
+
+-- the arcs that the memory holds after a reader's answer, their weights entries: those of the file's puts in their order, and after a refused
+-- record, on a line as long as the file tells, none. Any other refusal leaves the memory as it was, whatever it held.
+abbrev pub HeldAfter : {K : Type 0} → Format K → (K → Worth) → List Range → List ℕ → Result (Sheet K) FileFault → (weights : List K) → (sets : List ℕ) → Type 0
+HeldAfter f worth ranges file (Ok s) weights sets = HoldsArcs worth ranges s.words weights sets (put_records f file 0 (record_count f.width file) no_arcs)
+HeldAfter f worth ranges file (Err (Record e)) weights sets = HoldsArcs worth ranges (slice_index file 4) weights sets no_arcs
+HeldAfter f worth ranges file (Err _) weights sets = Unit {0}

@@ -62,9 +62,9 @@ pub record LastStands {K : Type 0} (f : Format K) : Type 0 where
   pub absent : (file : List ℕ) (count h d : ℕ) → ((i : ℕ) → i < count → names f file i h d ≡ false) → put_records f file 0 count no_arcs h d ≡ None
 
 -- the call is refused with that fault, or it is done
-abbrev pub Told : {T E : Type 0} → Option E → Result T E → (refused done : Type 0) → Type 0
-Told (Some e) r refused done = (r ≡ Err e) × refused
-Told None r refused done = (is_ok r ≡ true) × done
+abbrev pub Judged : {T E : Type 0} → Option E → Result T E → (refused done : Type 0) → Type 0
+Judged (Some e) r refused done = (r ≡ Err e) × refused
+Judged None r refused done = (is_ok r ≡ true) × done
 
 -- beyond the listed length for n words the memory is as it was
 pub record KeptBeyond {K : Type 0} (n : ℕ) (weights weights' : List K) (sets sets' : List ℕ) : Type 0 where

@@ -1,19 +1,29 @@
 // Why a file is refused: a fault of the file, of a record in it, and in that the sheet's own refusal.
 ghost use Rattle.file.specs.Faults.{fault_number, fault_place};
-ghost use Rattle.file.specs.Frame.{kind_numbered};
-ghost use Rattle.file.specs.Kinds.{kind_text};
+ghost use Rattle.file.specs.Frame.{kind_numbered, KindsTold};
+ghost use Rattle.file.specs.Kinds.{kind_number, kind_text};
 ghost use Rattle.file.specs.declared.fault.FileFault.TheVariants.{Record, Sheet};
 ghost use Rattle.std.specs.Prelude.{◌≡◌, Some};
 
 use refusal::Refusal;
 use std::fmt;
 
-// The kinds of weight that a file can hold.
+/// The kinds of weight that a file can hold.
 #[derive(Clone, Copy, PartialEq, Eq, Debug)]
 pub enum FileKind {
-    Score,
-    Cost,
-    Mark,
+    Score = 1,
+    Cost = 2,
+    Mark = 3,
+}
+
+impl FileKind {
+    /// The number that stands for the kind in byte 3 of a file.
+    pub fn number(self) -> u8
+        ensures value { result ≡ kind_number self }
+        ensures told { KindsTold }
+    {
+        self as u8
+    }
 }
 
 // By the number in byte 3 of a file.
@@ -23,12 +33,12 @@ impl TryFrom<u8> for FileKind {
     ghost try_from_gives = { λ number r. r ≡ kind_numbered number };
 
     fn try_from(number: u8) -> Result<FileKind, FileFault> {
-        match number {
-            1 => Ok(FileKind::Score),
-            2 => Ok(FileKind::Cost),
-            3 => Ok(FileKind::Mark),
-            _ => Err(FileFault::Kind),
+        for kind in [FileKind::Score, FileKind::Cost, FileKind::Mark] {
+            if number == kind.number() {
+                return Ok(kind);
+            }
         }
+        Err(FileFault::Kind)
     }
 }
 
@@ -44,7 +54,7 @@ impl fmt::Display for FileKind {
     }
 }
 
-// A put that was refused: the number of its record from 0, the place of the byte at fault, and the sheet's refusal.
+/// A put that was refused: the number of its record from 0, the place of the byte at fault, and the sheet's refusal.
 #[derive(Clone, Copy, PartialEq, Eq, Debug)]
 pub struct RecordFault {
     pub record: usize,
@@ -52,23 +62,23 @@ pub struct RecordFault {
     pub refusal: Refusal,
 }
 
-// Why a file is refused.
+/// Why a file is refused.
 #[derive(Clone, Copy, PartialEq, Eq, Debug)]
 pub enum FileFault {
-    // the version is missing or not 1
+    /// the version is missing or not 1
     Version,
-    // the length is missing, not 2 to 11,202 or not that of the bytes that follow, or the last record is a part
+    /// the length is missing, not 2 to 11,202 or not that of the bytes that follow, or the last record is a part
     Length,
-    // the kind is not 1 to 3, or not the reader's
+    /// the kind is not 1 to 3, or not the reader's
     Kind,
-    // the sheet could not be opened
+    /// the sheet could not be opened, or a run was given fewer turns than calls
     Sheet(Refusal),
-    // a record could not be put on the sheet
+    /// a record could not be put on the sheet
     Record(RecordFault),
 }
 
 impl FileFault {
-    // The number of the refusal.
+    /// The number of the refusal.
     pub fn number(self) -> u8
         ensures { result ≡ fault_number self }
     {
@@ -81,7 +91,7 @@ impl FileFault {
         }
     }
 
-    // The place of the first byte of the field at fault.
+    /// The place of the first byte of the field at fault.
     pub fn place(self) -> usize
         ensures { result ≡ fault_place self }
     {

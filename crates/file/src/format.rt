@@ -1,13 +1,13 @@
 // How the weights of each kind lie in a record of a file.
 ghost use Rattle.std.specs.Prelude.{◌≡◌, ◌+◌, ◌≤◌, [], ◌∷◌, cond, Some, None, length, nat_le, slice_index, refl};
-ghost use Rattle.file.specs.Formats.{cost_format, Format, mark_format, score_format, weight_in};
+ghost use Rattle.file.specs.Formats.{cost_format, Format, mark_format, score_format, weight_read};
 ghost use Rattle.std.proofs.Common.{lit≤};
 ghost use Rattle.weight.specs.Range.{entry_in};
 
 use crate::fault::FileKind;
 use weight::{Cost, Mark, Opens, Score};
 
-// A kind that a file can hold.
+/// A kind that a file can hold.
 pub trait Recorded: Opens {
     // how the weights lie in a record
     ghost format: { Format Self };
@@ -15,15 +15,17 @@ pub trait Recorded: Opens {
     fn file_kind() -> FileKind
         ensures { result ≡ format.kind };
 
-    // How many bytes a weight has.
+    /// How many bytes a weight has.
     fn bytes() -> usize
         ensures { result ≡ format.width };
 
-    // The weight in the bytes from a place on, if they are all there.
+    /// The weight in the bytes from a place on, if they are all there.
     fn weight(file: &[u8], at: usize) -> Option<Self>
-        ensures { result ≡ weight_in format file.now at };
+        ensures { result ≡ weight_read format file.now at };
 
     ghost narrow: { format.width ≤ 5 };
+
+    ghost few_places: { Self.places ≤ 2 };
 
     // a file's entries are the kind's own
     ghost entries: { (x : Self) → format.entry x ≡ entry_in Self.ranges (Self.worth x) };
@@ -40,6 +42,8 @@ impl Recorded for Score {
     ghost format = { score_format };
 
     ghost narrow = { lit≤ tt };
+
+    ghost few_places = { lit≤ tt };
 
     ghost entries = { λ _. refl };
 
@@ -62,6 +66,8 @@ impl Recorded for Cost {
 
     ghost narrow = { lit≤ tt };
 
+    ghost few_places = { lit≤ tt };
+
     ghost entries = { λ _. refl };
 
     fn file_kind() -> FileKind {
@@ -82,6 +88,8 @@ impl Recorded for Mark<Score> {
     ghost format = { mark_format };
 
     ghost narrow = { lit≤ tt };
+
+    ghost few_places = { lit≤ tt };
 
     ghost entries = { λ _. refl };
 

@@ -4,7 +4,7 @@ ghost use Rattle.std.specs.Prelude.{◌≡◌};
 
 use crate::fault::{FileFault, FileKind};
 
-// Tells the kind of a file.
+/// Tells the kind of a file.
 pub fn kind_of(file: &[u8]) -> Result<FileKind, FileFault>
     ensures { result ≡ kind_of file.now }
 {

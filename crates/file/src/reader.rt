@@ -1,8 +1,8 @@
 // The readers of files.
 ghost use Rattle.std.specs.Prelude.{◌≡◌, ℕ, ◌+◌, ◌≤◌, length, None, OnOk};
 ghost use Rattle.file.specs.Formats.{cost_format, mark_format, score_format};
-ghost use Rattle.file.specs.Reading.{frame_words, ReadAs, record_count, words_told};
-ghost use Rattle.file.specs.Records.{LastStands, put_records, records_check, Told};
+ghost use Rattle.file.specs.Reading.{frame_words, HeldAfter, ReadAs, record_count, words_told};
+ghost use Rattle.file.specs.Records.{LastStands, put_records, records_check, Judged};
 ghost use Rattle.sheet.specs.Arcs.{arcs_in, no_arcs};
 ghost use Rattle.sheet.specs.Calls.{Holds, open_check};
 ghost use Rattle.sheet.specs.Parts.{lengths_of};
@@ -60,7 +60,7 @@ fn fill<K: Recorded + Copy>(
 ) -> Result<(), RecordFault>
     requires room { open_check sheet.now.words (lengths_of weights.old sets.old spare) ≡ None }
     requires long { 5 ≤ length file.now }
-    ensures { Told (records_check K.format sheet.now.words file.now 0 (record_count K.format.width file.now)) result (Holds sheet.now.words no_arcs weights.old weights.new sets.old sets.new) (Holds sheet.now.words (put_records K.format file.now 0 (record_count K.format.width file.now) (arcs_in sheet.now.words weights.old sets.old)) weights.old weights.new sets.old sets.new) }
+    ensures { Judged (records_check K.format sheet.now.words file.now 0 (record_count K.format.width file.now)) result (Holds sheet.now.words no_arcs weights.old weights.new sets.old sets.new) (Holds sheet.now.words (put_records K.format file.now 0 (record_count K.format.width file.now) (arcs_in sheet.now.words weights.old sets.old)) weights.old weights.new sets.old sets.new) }
 {
     let count = record_count::<K>(file);
     let told = put_records(sheet, weights, sets, file, count);
@@ -71,14 +71,15 @@ fn fill<K: Recorded + Copy>(
     told
 }
 
-// Opens a sheet and puts the records of a file of the kind on it.
+/// Opens a sheet and puts the records of a file of the kind on it.
 pub fn read<K: Recorded + Copy>(
     file: &[u8],
     weights: &mut [K],
     sets: &mut [u64],
     spare: Spare<'_, K>,
 ) -> Result<Sheet<K>, FileFault>
-    ensures { ReadAs K.format (lengths_of weights.old sets.old spare.entry) file.now result weights.old weights.new sets.old sets.new }
+    ensures answer { ReadAs K.format (lengths_of weights.old sets.old spare.entry) file.now result weights.old weights.new sets.old sets.new }
+    ensures law { HeldAfter K.format K.Kind.worth K.Kind.ranges file.now result weights.new sets.new }
 {
     let words = frame_words::<K>(file)?;
     let sheet = open(words, weights, sets, spare)?;
@@ -86,8 +87,8 @@ pub fn read<K: Recorded + Copy>(
     Ok(sheet)
 }
 
-// After the puts of an accepted file an arc stands with the weight of the last record that names it. The formats are those by which
-// `read` reads the three kinds.
+/// After the puts of an accepted file an arc stands with the weight of the last record that names it. The formats are those by which
+/// `read` reads the three kinds.
 #[tactic(auto, using(crate::proofs::Lasts::last_stands))]
 pub fn last_stands()
     ensures scores { LastStands score_format }

@@ -1,6 +1,6 @@
 // The records of a file, put on the sheet one by one.
 ghost use Rattle.std.specs.Prelude.{◌≡◌, ℕ, ◌+◌, ◌*◌, ◌^◌, ◌<◌, ◌≤◌, length, None};
-ghost use Rattle.file.specs.Records.{field_place, KeptBeyond, put_record, put_records, record_check, record_place, records_check, Told};
+ghost use Rattle.file.specs.Records.{field_place, KeptBeyond, put_record, put_records, record_check, record_place, records_check, Judged};
 ghost use Rattle.sheet.specs.Arcs.{arcs_in};
 ghost use Rattle.sheet.specs.Calls.{Holds, memory_check};
 
@@ -32,7 +32,7 @@ fn put_record<K: Recorded + Copy>(
 ) -> Result<(), RecordFault>
     requires room { memory_check sheet.now.words (length weights.old) (length sets.old) ≡ None }
     requires whole { record_place K.format.width number + (K.format.width + 2) ≤ length file.now }
-    ensures { Told (record_check K.format sheet.now.words file.now number) result ((weights.new ≡ weights.old) × (sets.new ≡ sets.old)) (Holds sheet.now.words (put_record K.format file.now number (arcs_in sheet.now.words weights.old sets.old)) weights.old weights.new sets.old sets.new) }
+    ensures { Judged (record_check K.format sheet.now.words file.now number) result ((weights.new ≡ weights.old) × (sets.new ≡ sets.old)) (Holds sheet.now.words (put_record K.format file.now number (arcs_in sheet.now.words weights.old sets.old)) weights.old weights.new sets.old sets.new) }
 {
     let at = 5 + (K::bytes() + 2) * number;
     let weight = K::weight(file, at + 2).unwrap();
@@ -61,7 +61,7 @@ pub(crate) fn put_records<K: Recorded + Copy>(
 ) -> Result<(), RecordFault>
     requires room { memory_check sheet.now.words (length weights.old) (length sets.old) ≡ None }
     requires whole { record_place K.format.width count ≤ length file.now }
-    ensures { Told (records_check K.format sheet.now.words file.now 0 count) result (KeptBeyond sheet.now.words weights.old weights.new sets.old sets.new) (Holds sheet.now.words (put_records K.format file.now 0 count (arcs_in sheet.now.words weights.old sets.old)) weights.old weights.new sets.old sets.new) }
+    ensures { Judged (records_check K.format sheet.now.words file.now 0 count) result (KeptBeyond sheet.now.words weights.old weights.new sets.old sets.new) (Holds sheet.now.words (put_records K.format file.now 0 count (arcs_in sheet.now.words weights.old sets.old)) weights.old weights.new sets.old sets.new) }
 {
     // by the number, which a fault tells beside the place
     for number in 0..count {

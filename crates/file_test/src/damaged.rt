@@ -124,33 +124,31 @@ fn told(heap: Global, file: &[u8], room: usize) -> Result<Result<(), (u8, usize)
     )
 }
 
-// Each refusal at its place.
+// Files with one fault or several, and the fault that is told: 11, 12, 13, 1, 12 for a part record, and then the first record's.
+const FAULTS: [(&[u8], (u8, usize)); 11] = [
+    (&[], (11, 0)),
+    (&[1, 0, 5, 1], (12, 1)),
+    (&[1, 0, 2, 4, 1], (13, 3)),
+    (&[1, 0, 2, 1, 41], (1, 4)),
+    (&[1, 0, 3, 1, 41, 0], (1, 4)),
+    (&[1, 0, 3, 1, 1, 0], (12, 1)),
+    (&[1, 0, 3, 4, 41, 0], (13, 3)),
+    (&[1, 0, 8, 1, 1, 0, 0, 0, 0, 0, 1], (3, 6)),
+    (&[1, 0, 8, 1, 1, 2, 1, 0, 0, 0, 1], (4, 5)),
+    (&[1, 0, 8, 1, 1, 1, 1, 0, 0, 0, 1], (5, 6)),
+    (&[1, 0, 8, 1, 1, 0, 1, 0, 15, 66, 65], (6, 7)),
+];
+
+// Each refusal at its place, by the reader and by the plain reading.
 #[test]
 fn known_faults(rt: HostRuntime) -> Result<(), Fail> {
     let heap = rt.alloc();
-    assert_eq!(rt; told(heap, &[], 40)?, Err((11, 0)));
-    assert_eq!(rt; told(heap, &[1, 0, 5, 1], 40)?, Err((12, 1)));
-    assert_eq!(rt; told(heap, &[1, 0, 2, 4, 1], 40)?, Err((13, 3)));
-    assert_eq!(rt; told(heap, &[1, 0, 2, 1, 41], 40)?, Err((1, 4)));
-    assert_eq!(rt; told(heap, &[1, 0, 3, 1, 1, 0], 40)?, Err((12, 1)));
+    for (file, fault) in FAULTS {
+        assert_eq!(rt; told(heap, file, 40)?, Err(fault));
+        assert_eq!(rt; check(file), Err(fault));
+    }
     assert_eq!(rt; told(heap, &SCORES, 1)?, Err((2, 0)));
     assert_eq!(rt; told(heap, &SCORES, 2)?, Ok(()));
-    assert_eq!(rt;
-        told(heap, &[1, 0, 8, 1, 1, 0, 0, 0, 0, 0, 1], 40)?,
-        Err((3, 6))
-    );
-    assert_eq!(rt;
-        told(heap, &[1, 0, 8, 1, 1, 2, 1, 0, 0, 0, 1], 40)?,
-        Err((4, 5))
-    );
-    assert_eq!(rt;
-        told(heap, &[1, 0, 8, 1, 1, 1, 1, 0, 0, 0, 1], 40)?,
-        Err((5, 6))
-    );
-    assert_eq!(rt;
-        told(heap, &[1, 0, 8, 1, 1, 0, 1, 0, 15, 66, 65], 40)?,
-        Err((6, 7))
-    );
     Ok(())
 }
 
@@ -177,8 +175,12 @@ fn the_largest_file(rt: HostRuntime) -> Result<(), Fail> {
     assert!(rt; agrees::<Mark<Score>>(heap, file.get(..11204).unwrap_or(&[]))?);
     file.push(0)?;
     assert!(rt; agrees::<Mark<Score>>(heap, file.as_slice())?);
-    // the length told rightly, and too great
+    // the length told rightly, and too great: before the kind and the words are looked at
     file.as_mut_slice().get_mut(2).map(|low| *low = 195);
     assert!(rt; agrees::<Mark<Score>>(heap, file.as_slice())?);
+    file.as_mut_slice().get_mut(3).map(|kind| *kind = 4);
+    file.as_mut_slice().get_mut(4).map(|words| *words = 41);
+    assert_eq!(rt; check(file.as_slice()), Err((12, 1)));
+    assert_eq!(rt; told(heap, file.as_slice(), 40)?, Err((12, 1)));
     Ok(())
 }

@@ -2,3 +2,4 @@ mod Parts
 mod Spacing
 mod Pieces
 mod Tabs
+pub mod Lengths

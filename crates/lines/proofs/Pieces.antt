@@ -1,7 +1,7 @@
 -- Lines as pieces, one after another.
 use Rattle.std.proofs.Common.{◌≡◌, ℕ, ◌+◌, ◌<◌, ◌≤◌, List, [], ◌∷◌, ◌++◌, length, take, drop, set, Some, None, Ok, Err, decimal, codes, Option, Result, sym, ap, ◌∙◌, append_assoc, arith, length-append, length-drop, length-set, length-take, length-take-le, MatchOption}
 use Rattle.lines.proofs.Parts.{part_kept, part_shown}
-use Rattle.lines.specs.Lines.{before_weight, behind_weight, tree_text, refused_text}
+use Rattle.lines.specs.Lines.{before_weight, behind_weight, tree_text, refused_line_text}
 use Rattle.refusal.specs.declared.Refusal.TheVariants.{ShortSpace}
 use Rattle.refusal.specs.declared.Refusal.{Refusal}
 use Rattle.std.proofs.lemmas.List.{drop_at}
@@ -33,9 +33,9 @@ placed_kept : (t s after : List ℕ) (at k : ℕ) → Placed t s at (Ok k) after
 placed_kept t s after at k p h = ap length (placed_ok t s at k after p).1 ∙ length_written s at t h
 
 -- the pieces of the line of a refused file
-pub refused_placed : (number place : ℕ) (s s1 s2 s3 s4 after : List ℕ) (k1 k2 k3 k4 : ℕ) (r : Result ℕ Refusal) → length (refused_text number place) ≤ length s
+pub refused_placed : (number place : ℕ) (s s1 s2 s3 s4 after : List ℕ) (k1 k2 k3 k4 : ℕ) (r : Result ℕ Refusal) → length (refused_line_text number place) ≤ length s
     → Placed (codes "refused ") s 0 (Ok k1) s1 → Placed (decimal number) s1 k1 (Ok k2) s2 → Placed (codes " at ") s2 k2 (Ok k3) s3 → Placed (decimal place) s3 k3 (Ok k4) s4 → Placed (10 ∷ []) s4 k4 r after
-    → Placed (refused_text number place) s 0 r after
+    → Placed (refused_line_text number place) s 0 r after
 refused_placed number place s s1 s2 s3 s4 after k1 k2 k3 k4 r h p1 p2 p3 p4 p5 =
     let e1 = (placed_ok (codes "refused ") s 0 k1 s1 p1).0 in
     let e2 = (placed_ok (decimal number) s1 k1 k2 s2 p2).0 in
@@ -93,7 +93,7 @@ length_tree number a heads =
     length-append (before_weight number) (text a ++ behind_weight heads)
     ∙ ap (λ n. length (before_weight number) + n) (length-append (text a) (behind_weight heads))
 
-pub length_refused : (number place : ℕ) → length (refused_text number place) ≡ length (decimal number) + length (decimal place) + 13
+pub length_refused : (number place : ℕ) → length (refused_line_text number place) ≡ length (decimal number) + length (decimal place) + 13
 length_refused number place =
     let first = length-append (decimal number) (codes " at " ++ (decimal place ++ (10 ∷ []))) in
     let second = length-append (decimal place) (10 ∷ []) in

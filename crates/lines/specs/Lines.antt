@@ -25,8 +25,8 @@ last_text NoMore = codes "no more\n"
 last_text Fifty = codes "fifty\n"
 
 -- a refused file: `refused `, the refusal's number, ` at `, the place of the byte at fault
-abbrev pub refused_text : ℕ → ℕ → List ℕ
-refused_text number place = codes "refused " ++ (decimal number ++ (codes " at " ++ (decimal place ++ (10 ∷ []))))
+abbrev pub refused_line_text : ℕ → ℕ → List ℕ
+refused_line_text number place = codes "refused " ++ (decimal number ++ (codes " at " ++ (decimal place ++ (10 ∷ []))))
 
 -- what stands before the first TAB of a line, and what behind it
 abbrev pub before_tab : List ℕ → List ℕ

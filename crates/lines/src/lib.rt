@@ -3,8 +3,10 @@
 // too short a space is refused and left as it was.
 #![tactic(auto)]
 
-ghost use Rattle.lines.specs.Ends.{ToldEnd};
-ghost use Rattle.lines.specs.Lines.{tree_text, last_text, refused_text, ToldFields};
+ghost use Rattle.lines.specs.Ends.{end_number, ToldEnd};
+ghost use Rattle.lines.specs.Lengths.{ShortLines};
+ghost use Rattle.lines.specs.Lines.{tree_text, last_text, refused_line_text, ToldFields};
+ghost use Rattle.std.specs.Prelude.{◌≡◌};
 ghost use Rattle.text.specs.Space.{Placed};
 
 mod refused;
@@ -16,15 +18,24 @@ use refused::Refused;
 use tree::Around;
 use weight::Kind;
 
-// How a ranking ends.
+/// How a ranking ends.
 #[derive(Clone, Copy, PartialEq, Eq, Debug)]
 pub enum Last {
-    // the sheet has no single-root tree
-    NoTree,
-    // every tree of the sheet was taken
-    NoMore,
-    // fifty trees were taken
-    Fifty,
+    /// the sheet has no single-root tree
+    NoTree = 8,
+    /// every tree of the sheet was taken
+    NoMore = 9,
+    /// fifty trees were taken
+    Fifty = 10,
+}
+
+impl Last {
+    /// The number of the refusal that tells this end.
+    pub fn number(self) -> u8
+        ensures { result ≡ end_number self }
+    {
+        self as u8
+    }
 }
 
 // The end that a refused take tells. Any other refusal tells no end, and is given back.
@@ -34,16 +45,16 @@ impl TryFrom<Refusal> for Last {
     ghost try_from_gives = { ToldEnd };
 
     fn try_from(why: Refusal) -> Result<Last, Refusal> {
-        match why {
-            Refusal::NoTree => Ok(Last::NoTree),
-            Refusal::NoMore => Ok(Last::NoMore),
-            Refusal::Fifty => Ok(Last::Fifty),
-            _ => Err(why),
+        for last in [Last::NoTree, Last::NoMore, Last::Fifty] {
+            if last.number() == why.number() {
+                return Ok(last);
+            }
         }
+        Err(why)
     }
 }
 
-// The line of a tree: its number in the ranking, its weight and its heads.
+/// The line of a tree: its number in the ranking, its weight and its heads.
 pub fn tree_line<K: Kind>(
     number: usize,
     weight: &K,
@@ -57,7 +68,7 @@ pub fn tree_line<K: Kind>(
     around.write(weight, room, space)
 }
 
-// The last line of a ranking: bytes, and no `Display`, since the space is lent and there is no heap.
+/// The last line of a ranking: bytes, and no `Display`, since the space is lent and there is no heap.
 pub fn last_line(last: Last, space: &mut [u8]) -> Result<usize, Refusal>
     ensures { Placed (last_text last) space.old 0 result space.new }
 {
@@ -68,9 +79,9 @@ pub fn last_line(last: Last, space: &mut [u8]) -> Result<usize, Refusal>
     }
 }
 
-// The line of a refused file: the number of the refusal, and the place of the byte at fault.
+/// The line of a refused file: the number of the refusal, and the place of the byte at fault.
 pub fn refused_line(number: u8, place: usize, space: &mut [u8]) -> Result<usize, Refusal>
-    ensures { Placed (refused_text number place) space.old 0 result space.new }
+    ensures { Placed (refused_line_text number place) space.old 0 result space.new }
 {
     let refused = Refused { number, place };
     if space.len() < refused.text_length() {
@@ -79,9 +90,10 @@ pub fn refused_line(number: u8, place: usize, space: &mut [u8]) -> Result<usize,
     refused.write(space)
 }
 
-// What holds of all lines of trees.
+/// What holds of all lines: the fields of a tree's, and how long each is at most.
 pub fn laws()
-    ensures { ToldFields }
+    ensures fields { ToldFields }
+    ensures lengths { ShortLines }
 {}
 
 #[cfg(test)]

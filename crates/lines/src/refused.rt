@@ -1,6 +1,6 @@
 // The line of a refused file.
 ghost use Rattle.std.specs.Prelude.{◌≡◌, ◌≤◌, length};
-ghost use Rattle.lines.specs.Lines.{refused_text};
+ghost use Rattle.lines.specs.Lines.{refused_line_text};
 ghost use Rattle.text.specs.Space.{Placed};
 
 use crate::writing::put_bytes;
@@ -18,7 +18,7 @@ impl Refused {
     // How long the line is: its words, blanks and end take 13 bytes.
     #[tactic(auto, using(crate::proofs::Pieces::length_refused))]
     pub(crate) fn text_length(self) -> usize
-        ensures { result ≡ length (refused_text self.number self.place) }
+        ensures { result ≡ length (refused_line_text self.number self.place) }
     {
         width(self.number) + width(self.place) + 13
     }
@@ -26,8 +26,8 @@ impl Refused {
     // Writes the line to the front of the space, where there is room.
     #[tactic(auto, using(crate::proofs::Pieces::length_refused))]
     pub(crate) fn write(self, space: &mut [u8]) -> Result<usize, Refusal>
-        requires { length (refused_text self.number self.place) ≤ length space.old }
-        ensures { Placed (refused_text self.number self.place) space.old 0 result space.new }
+        requires { length (refused_line_text self.number self.place) ≤ length space.old }
+        ensures { Placed (refused_line_text self.number self.place) space.old 0 result space.new }
     {
         let end = put_bytes(b"refused ", space, 0)?;
         let end = put(self.number, space, end)?;

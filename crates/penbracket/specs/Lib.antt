@@ -1,1 +1,2 @@
 pub mod Drawing
+pub mod Texts

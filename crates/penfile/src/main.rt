@@ -1,103 +1,168 @@
-// Reads the file of a sheet from standard input, and prints each step: its kind, its words, its records, and the arcs that
+// Reads the file of a sheet from standard input, and writes each step: its kind, its words, its records, and the arcs that
 // stand in the end; or the refusal with its number and byte place.
 #![tactic(auto)]
 
-use console::{ended, refuse_arguments};
+ghost use Rattle.desk.specs.Parts.{parts_of};
+ghost use Rattle.file.specs.Reading.{record_count};
+ghost use Rattle.penfile.specs.Files.{FileShown, file_shown, kind_shown};
+ghost use Rattle.penfile.specs.Lines.{all_standing, arc_line, arc_lines, record_lines, standing_into};
+ghost use Rattle.sheet.specs.Arcs.{HoldsArcs, arcs_in};
+ghost use Rattle.std.specs.Io.KnownBytes.{Appends};
+ghost use Rattle.std.specs.List.{AllByRecursion};
+ghost use Rattle.std.specs.Prelude.{◌≡◌, ◌+◌, ◌≤◌, ◌++◌, true, IfOk, OnOk};
+ghost use Rattle.weight.specs.Range.{entry_in};
+
+use console::{LineError, ended, refuse_arguments};
 use desk::Memory;
-use file::{FileFault, FileKind, Recorded, kind_of};
-use lines::refused_line;
-use sheet::Sheet;
+use file::{FileKind, Recorded, kind_of};
+use filing::{read_file, read_sheet, write_fault};
+use std::alloc::{AllocError, Global};
 use std::io;
-use std::io::Read;
-use weight::{Cost, Kind, Mark, Score};
+use std::io::{Read, Write};
+use weight::{Cost, Mark, Score};
 use word_set::holds;
 
-// Prints the line of a refused file.
-// It only writes standard output, of which no contract can speak, so it stands in the program.
-fn print_fault(rt: &HostRuntime, fault: FileFault) -> io::Result<()> {
-    let mut space = [0; 64];
-    let long = refused_line(fault.number(), fault.place(), &mut space).unwrap_or(0);
-    let text = std::str::from_utf8(space.get(..long).unwrap_or(&[])).unwrap_or("");
-    print!(rt; "{text}")
+// An arc that stands, with its weight.
+#[derive(Clone, Copy)]
+struct Standing<K> {
+    head: usize,
+    dependent: usize,
+    weight: K,
 }
 
-// Prints the arc that each record of so many bytes names.
-fn print_records(rt: &HostRuntime, records: &[u8], width: usize) -> io::Result<()> {
-    for (number, record) in records.chunks(width.max(1)).enumerate() {
-        if let [head, dependent, ..] = record {
-            println!(rt; "record {number}: arc {head} to {dependent}")?;
+// Writes the arc that each record names, where a weight has so many bytes.
+fn write_records<W: Write>(file: &[u8], width: usize, out: &mut W) -> io::Result<()>
+    requires { width ≤ 5 }
+    ensures { OnOk result (Appends (W.contents out.old) (W.contents out.new) (record_lines width file.now (record_count width file.now))) }
+{
+    let count = file.len().saturating_sub(5) / (width + 2);
+    for number in 0..count {
+        let at = 5 + (width + 2) * number;
+        let head = file[at];
+        let dependent = file[at + 1];
+        writeln!(out, "record {number}: arc {head} to {dependent}")?;
+    }
+    Ok(())
+}
+
+// Puts the arcs that stand into a word behind the others.
+fn push_into<K: Recorded + Copy>(
+    words: usize,
+    dependent: usize,
+    memory: &Memory<K>,
+    arcs: &mut Vec<Standing<K>>,
+) -> Result<(), AllocError>
+    requires few { words ≤ 40 }
+    requires word { (1 ≤ dependent) × (dependent ≤ words) }
+    ensures { OnOk result (arcs.new.items ≡ arcs.old.items ++ standing_into (arcs_in words memory.now.weights.items memory.now.sets.items) dependent (words + 1)) }
+{
+    let heads = memory.sets[dependent - 1];
+    for head in 0..words + 1 {
+        if holds(heads, head) {
+            let weight = memory.weights[(dependent - 1) * (words + 1) + head];
+            arcs.push(Standing {
+                head,
+                dependent,
+                weight,
+            })?;
         }
     }
     Ok(())
 }
 
-// Prints an arc and its weight.
-fn print_arc<K: Kind>(
-    rt: &HostRuntime,
-    head: usize,
-    dependent: usize,
-    weight: &K,
-) -> io::Result<()> {
-    let mut space = [0; 64];
-    let long = weight.show(&mut space).unwrap_or(0);
-    let text = std::str::from_utf8(space.get(..long).unwrap_or(&[])).unwrap_or("");
-    println!(rt; "arc {head} to {dependent} stands: {text}")
+// All arcs that stand on a line of so many words.
+fn arcs_of<K: Recorded + Copy>(
+    heap: Global,
+    words: usize,
+    memory: &Memory<K>,
+) -> Result<Vec<Standing<K>>, AllocError>
+    requires { words ≤ 40 }
+    ensures { IfOk result (λ arcs. arcs.items ≡ all_standing words (arcs_in words memory.now.weights.items memory.now.sets.items) words) }
+{
+    let mut arcs = Vec::new(heap);
+    for dependent in 1..words + 1 {
+        push_into(words, dependent, memory, &mut arcs)?;
+    }
+    Ok(arcs)
 }
 
-// Prints all arcs that stand: the weights of a word's arcs lie together, one for each head.
-fn print_arcs<K: Kind + Copy>(
-    rt: &HostRuntime,
-    sheet: &Sheet<K>,
-    memory: &Memory<K>,
-) -> io::Result<()> {
-    let mut arcs = Vec::new(rt.alloc());
-    let rows = memory.weights.chunks(sheet.words() + 1);
-    for (dependent, (row, set)) in (1..).zip(rows.zip(memory.sets.iter())) {
-        for (head, weight) in row.iter().enumerate() {
-            if holds(*set, head) {
-                arcs.push((head, dependent, *weight))?;
-            }
-        }
-    }
-    for (head, dependent, weight) in arcs.iter() {
-        print_arc(rt, *head, *dependent, weight)?;
+// Writes an arc and its weight.
+fn write_arc<K: Recorded, W: Write>(arc: &Standing<K>, out: &mut W) -> io::Result<()>
+    requires { entry_in K.Kind.ranges (K.Kind.worth arc.now.weight) ≡ true }
+    ensures { OnOk result (Appends (W.contents out.old) (W.contents out.new) (arc_line K.Kind.worth arc.now)) }
+{
+    let mut space = [0; 64];
+    let long = arc.weight.show(&mut space).unwrap();
+    let head = arc.head;
+    let dependent = arc.dependent;
+    write!(out, "arc {head} to {dependent} stands: ")?;
+    out.write_all(&space[..long])?;
+    out.write_all(b"\n")
+}
+
+// Writes the arcs, and how many they are.
+fn write_arcs<K: Recorded, W: Write>(arcs: &[Standing<K>], out: &mut W) -> io::Result<()>
+    requires { AllByRecursion (λ arc. entry_in K.Kind.ranges (K.Kind.worth arc.weight) ≡ true) arcs.now }
+    ensures { OnOk result (Appends (W.contents out.old) (W.contents out.new) (arc_lines K.Kind.worth arcs.now)) }
+{
+    for arc in arcs {
+        write_arc(arc, out)?;
     }
     let standing = arcs.len();
-    println!(rt; "arcs: {standing}")
+    writeln!(out, "arcs: {standing}")
 }
 
-// Reads a file of a kind, and prints its records and the arcs that stand in the end.
-fn show<K: Recorded + Copy>(rt: &HostRuntime, file: &[u8]) -> io::Result<()> {
-    let mut memory = Memory::<K>::new(rt.alloc())?;
-    match memory.read(file) {
-        Err(fault) => print_fault(rt, fault),
+// Reads a file of a kind, and writes its records and the arcs that stand in the end.
+fn show<K: Recorded + Copy, W: Write>(heap: Global, file: &[u8], out: &mut W) -> io::Result<()>
+    ensures { OnOk result (Appends (W.contents out.old) (W.contents out.new) (kind_shown K.format K.Kind.worth file.now)) }
+{
+    let mut memory = Memory::<K>::new(heap)?;
+    match read_sheet(file, &mut memory) {
+        Err(fault) => write_fault(fault, out),
         Ok(sheet) => {
-            print_records(rt, file.get(5..).unwrap_or(&[]), K::bytes() + 2)?;
-            print_arcs(rt, &sheet, &memory)
+            let arcs = arcs_of(heap, sheet.words(), &memory)?;
+            write_records(file, K::bytes(), out)?;
+            write_arcs(&arcs, out)
         }
     }
 }
 
-// Shows the file on standard input, of which one byte more is read than the longest file has.
-fn show_input(rt: &HostRuntime) -> io::Result<()> {
-    refuse_arguments(rt, "penfile < FILE")?;
-    let mut bytes = Vec::new(rt.alloc());
-    rt.stdin().take(11_206).read_to_end(&mut bytes)?;
-    let file = bytes.as_slice();
+// Writes what a file of any kind says.
+fn show_kind<W: Write>(heap: Global, file: &[u8], out: &mut W) -> io::Result<()>
+    ensures { OnOk result (Appends (W.contents out.old) (W.contents out.new) (file_shown file.now)) }
+{
     let kind = match kind_of(file) {
         Ok(kind) => kind,
-        Err(fault) => return print_fault(rt, fault),
+        Err(fault) => return write_fault(fault, out),
     };
-    println!(rt; "kind: {kind}")?;
+    writeln!(out, "kind: {kind}")?;
     let words = file.get(4).copied().unwrap_or(0);
-    println!(rt; "words: {words}")?;
+    writeln!(out, "words: {words}")?;
     match kind {
-        FileKind::Score => show::<Score>(rt, file),
-        FileKind::Cost => show::<Cost>(rt, file),
-        FileKind::Mark => show::<Mark<Score>>(rt, file),
+        FileKind::Score => show::<Score, W>(heap, file, out),
+        FileKind::Cost => show::<Cost, W>(heap, file, out),
+        FileKind::Mark => show::<Mark<Score>, W>(heap, file, out),
     }
+}
+
+// Reads a file, and shows it. Only reading, writing and want of memory make it fail.
+fn show_file<R: Read + Drop, W: Write>(heap: Global, input: R, out: &mut W) -> io::Result<()>
+    ensures { OnOk result (FileShown (R.remaining input) (W.contents out.old) (W.contents out.new)) }
+{
+    let file = read_file(heap, input)?;
+    show_kind(heap, &file, out)
+}
+
+// Shows the file on standard input.
+fn show_input(rt: &HostRuntime) -> Result<(), LineError> {
+    refuse_arguments(rt, "penfile < FILE")?;
+    show_file(rt.alloc(), rt.stdin(), &mut rt.stdout())?;
+    Ok(())
 }
 
 fn main(rt: HostRuntime) -> io::Result<()> {
     ended(&rt, show_input(&rt))
 }
+
+#[cfg(test)]
+mod tests;

@@ -2,94 +2,130 @@
 // first, and a last line that tells why there is no further; or the one line of a refused file.
 #![tactic(auto)]
 
-use console::{ended, refuse_arguments};
+ghost use Rattle.desk.specs.Parts.{parts_of};
+ghost use Rattle.lines.specs.Lines.{last_text, tree_text};
+ghost use Rattle.penrank.specs.Files.{FileText, KindText, OneText, FileRanked, Writes};
+ghost use Rattle.penrank.specs.Rankings.{RankingText};
+ghost use Rattle.penrank.specs.Steps.{LineWritten};
+ghost use Rattle.ranking.specs.Memory.{StandsFor};
+ghost use Rattle.sheet.specs.Arcs.{Arcs, HoldsArcs, arcs_in};
+ghost use Rattle.std.specs.Io.KnownBytes.{Appends};
+ghost use Rattle.std.specs.Prelude.{◌≡◌, ℕ, ◌^◌, ◌≤◌, List, length, IfOk, OnOk};
+ghost use Rattle.weight.specs.Worth.{Within};
+
+use console::{LineError, ended, refuse_arguments};
 use desk::Memory;
-use file::{FileFault, FileKind, Recorded, kind_of};
-use lines::{Last, last_line, refused_line, tree_line};
-use ranking::{Taken, begin};
-use refusal::Refusal;
+use file::{FileKind, Recorded, kind_of};
+use filing::{read_file, read_sheet, write_fault};
+use lines::{Last, last_line, tree_line};
+use ranking::{Ranking, Taken, begin};
 use sheet::Sheet;
 use std::alloc::Global;
 use std::io;
-use std::io::{ErrorKind, Read, Write};
-use weight::{Cost, Kind, Mark, Opens, Score};
+use std::io::{Read, Write};
+use weight::{Cost, Mark, Score};
 
-// How much of the input is read: one byte more than the longest file has, so that a longer one is refused for its length.
-const MOST_BYTES: u64 = 11_206;
-
-// Writes a line of this length, from the front of a space.
-fn write_line(out: &mut impl Write, long: Result<usize, Refusal>, space: &[u8]) -> io::Result<()> {
-    match long {
-        Ok(long) => out.write_all(space.get(..long).unwrap_or(&[])),
-        Err(_) => Err(ErrorKind::WriteZero.into()),
-    }
-}
-
-// Writes the line of a tree. The space holds every line: one of 40 heads with a weight of two places has at most 223 bytes.
-fn write_tree<K: Kind>(out: &mut impl Write, taken: &Taken<K>, heads: &[u8]) -> io::Result<()> {
+// Writes the line of a tree.
+fn write_tree<K: Recorded, W: Write>(taken: &Taken<K>, heads: &[u8], out: &mut W) -> io::Result<()>
+    requires forty { length heads.now ≤ 40 }
+    requires small { Within (2 ^ 40) (K.Kind.worth taken.now.weight) }
+    ensures { OnOk result (Appends (W.contents out.old) (W.contents out.new) (tree_text taken.now.count (K.Kind.worth taken.now.weight) heads.now)) }
+{
     let mut space = [0; 256];
-    let long = tree_line(taken.count, &taken.weight, heads, &mut space);
-    write_line(out, long, &space)
+    let long = tree_line(taken.count, &taken.weight, heads, &mut space).unwrap();
+    out.write_all(&space[..long])
 }
 
-// Writes the last line, which tells why there is no further tree.
-fn write_last(out: &mut impl Write, why: Refusal) -> io::Result<()> {
+// Writes the last line.
+fn write_last<W: Write>(last: Last, out: &mut W) -> io::Result<()>
+    ensures { OnOk result (Appends (W.contents out.old) (W.contents out.new) (last_text last)) }
+{
     let mut space = [0; 64];
-    let long = Last::try_from(why).and_then(|last| last_line(last, &mut space));
-    write_line(out, long, &space)
+    let long = last_line(last, &mut space).unwrap();
+    out.write_all(&space[..long])
 }
 
-// Writes the line of a refused file.
-fn write_fault(out: &mut impl Write, fault: FileFault) -> io::Result<()> {
-    let mut space = [0; 64];
-    let long = refused_line(fault.number(), fault.place(), &mut space);
-    write_line(out, long, &space)
+// Takes the next tree and writes its line, or the last line where no tree is left; whether there was one.
+fn write_next<K: Recorded + Copy, W: Write>(
+    words: usize,
+    ranking: &mut Ranking<K>,
+    memory: &mut Memory<K>,
+    out: &mut W,
+) -> io::Result<bool>
+    requires line { words ≡ ranking.old.sheet.words }
+    requires stands { (arcs : Arcs K) × (ts : List (List ℕ)) × StandsFor K.Kind.worth K.Kind.ranges ranking.old (parts_of memory.old) arcs ts }
+    ensures words { ranking.new.sheet.words ≡ words }
+    ensures line { (arcs : Arcs K) (ts : List (List ℕ)) → StandsFor K.Kind.worth K.Kind.ranges ranking.old (parts_of memory.old) arcs ts → IfOk result (λ more. LineWritten K.Kind.worth K.Kind.ranges words arcs ts ranking.new (parts_of memory.new) more (W.contents out.old) (W.contents out.new)) }
+{
+    let mut heads = [0; 40];
+    match memory.take(ranking, &mut heads) {
+        Ok(taken) => {
+            write_tree(&taken, &heads[..words], out)?;
+            Ok(true)
+        }
+        Err(why) => {
+            write_last(Last::try_from(why).unwrap(), out)?;
+            Ok(false)
+        }
+    }
 }
 
 // Takes until refused, and writes each line.
-fn write_ranking<K: Opens + Copy>(
-    out: &mut impl Write,
+fn write_ranking<K: Recorded + Copy, W: Write>(
     sheet: Sheet<K>,
     memory: &mut Memory<K>,
-) -> io::Result<()> {
+    out: &mut W,
+) -> io::Result<()>
+    requires { HoldsArcs K.Kind.worth K.Kind.ranges sheet.words memory.old.weights.items memory.old.sets.items (arcs_in sheet.words memory.old.weights.items memory.old.sets.items) }
+    ensures { OnOk result (Writes (RankingText K.Kind.worth sheet.words (arcs_in sheet.words memory.old.weights.items memory.old.sets.items)) (W.contents out.old) (W.contents out.new)) }
+{
     let words = sheet.words();
     let mut ranking = begin(sheet);
-    for _ in 0..51 {
-        let mut heads = [0; 40];
-        match memory.take(&mut ranking, &mut heads) {
-            Ok(taken) => write_tree(out, &taken, heads.get(..words).unwrap_or(&[]))?,
-            Err(why) => return write_last(out, why),
-        }
-    }
-    Err(ErrorKind::InvalidData.into())
+    while write_next(words, &mut ranking, memory, out)? {}
+    Ok(())
 }
 
-// Reads a file of a kind and writes its ranking.
-fn rank<K: Recorded + Copy>(heap: Global, file: &[u8], out: &mut impl Write) -> io::Result<()> {
+// Reads a file of a kind and writes its ranking, or why it is refused.
+fn rank<K: Recorded + Copy, W: Write>(heap: Global, file: &[u8], out: &mut W) -> io::Result<()>
+    ensures { OnOk result (Writes (KindText K.format K.Kind.worth file.now) (W.contents out.old) (W.contents out.new)) }
+{
     let mut memory = Memory::<K>::new(heap)?;
-    match memory.read(file) {
-        Ok(sheet) => write_ranking(out, sheet, &mut memory),
-        Err(fault) => write_fault(out, fault),
+    match read_sheet(file, &mut memory) {
+        Ok(sheet) => write_ranking(sheet, &mut memory, out),
+        Err(fault) => write_fault(fault, out),
     }
 }
 
-// Reads a file and writes its ranking, or why it is refused.
-fn rank_file(heap: Global, input: impl Read + Drop, out: &mut impl Write) -> io::Result<()> {
-    let mut bytes = Vec::new(heap);
-    input.take(MOST_BYTES).read_to_end(&mut bytes)?;
-    let file = bytes.as_slice();
+// Writes the ranking of a file of any kind, or why it is refused.
+fn rank_kind<W: Write>(heap: Global, file: &[u8], out: &mut W) -> io::Result<()>
+    ensures { OnOk result (Writes (FileText file.now) (W.contents out.old) (W.contents out.new)) }
+{
     match kind_of(file) {
-        Ok(FileKind::Score) => rank::<Score>(heap, file, out),
-        Ok(FileKind::Cost) => rank::<Cost>(heap, file, out),
-        Ok(FileKind::Mark) => rank::<Mark<Score>>(heap, file, out),
-        Err(fault) => write_fault(out, fault),
+        Ok(FileKind::Score) => rank::<Score, W>(heap, file, out),
+        Ok(FileKind::Cost) => rank::<Cost, W>(heap, file, out),
+        Ok(FileKind::Mark) => rank::<Mark<Score>, W>(heap, file, out),
+        Err(fault) => write_fault(fault, out),
     }
 }
+
+// Reads a file and writes its ranking, or why it is refused. Only reading, writing and want of memory make it fail.
+fn rank_file<R: Read + Drop, W: Write>(heap: Global, input: R, out: &mut W) -> io::Result<()>
+    ensures { OnOk result (FileRanked (R.remaining input) (W.contents out.old) (W.contents out.new)) }
+{
+    let file = read_file(heap, input)?;
+    rank_kind(heap, &file, out)
+}
+
+/// A file settles every byte that is written for it.
+pub fn laws()
+    ensures { OneText }
+{}
 
 // Ranks the file on standard input.
-fn rank_input(rt: &HostRuntime) -> io::Result<()> {
+fn rank_input(rt: &HostRuntime) -> Result<(), LineError> {
     refuse_arguments(rt, "penrank < FILE")?;
-    rank_file(rt.alloc(), rt.stdin(), &mut rt.stdout())
+    rank_file(rt.alloc(), rt.stdin(), &mut rt.stdout())?;
+    Ok(())
 }
 
 fn main(rt: HostRuntime) -> io::Result<()> {

@@ -1,11 +1,14 @@
 use super::*;
+use console::pieces::{OneByteReader, OneByteWriter};
 use std::test::Fail;
 
-// What the program writes for a file.
+// What the program writes for a file, where bytes come and go one by one.
 fn written(heap: Global, file: &[u8]) -> io::Result<Vec<u8>> {
-    let mut out = Vec::new(heap);
-    rank_file(heap, file, &mut out)?;
-    Ok(out)
+    let mut out = OneByteWriter::new(heap);
+    rank_file(heap, OneByteReader::new(file), &mut out)?;
+    let mut text = Vec::new(heap);
+    text.extend_from_slice(out.taken())?;
+    Ok(text)
 }
 
 // The file of so many words with a score of 0 on each arc from one of the words before, at most so many of them, or the root.
@@ -64,6 +67,36 @@ fn limits(rt: HostRuntime) -> Result<(), Fail> {
     assert_eq!(rt;
         written(rt.alloc(), long.as_slice())?.as_slice(),
         b"refused 12 at 1\n".as_slice()
+    );
+    Ok(())
+}
+
+// The file of 40 words of which one hangs on the root and the others on it, each at mark 9 and a score of -1,000,000.
+fn star(heap: Global) -> io::Result<Vec<u8>> {
+    let mut file = Vec::new(heap);
+    file.extend_from_slice(&[1, 0x01, 0x1A, 3, 40])?;
+    for dependent in 1..40 {
+        file.extend_from_slice(&[40, dependent, 9, 0xFF, 0xF0, 0xBD, 0xC0])?;
+    }
+    file.extend_from_slice(&[0, 40, 9, 0xFF, 0xF0, 0xBD, 0xC0])?;
+    Ok(file)
+}
+
+// The longest line of a tree, and a fault whose line is longer than a last one.
+#[test]
+fn long_lines(rt: HostRuntime) -> Result<(), Fail> {
+    let text = written(rt.alloc(), star(rt.alloc())?.as_slice())?;
+    assert!(rt;
+        text.starts_with(b"1\t360,-40000000\t40 40 ") && text.ends_with(b" 40 40 0\nno more\n")
+    );
+    assert_eq!(rt; text.len(), 135 + 8);
+    let mut file = scores(rt.alloc(), 40, 1)?;
+    // record 20 hangs word 21 on itself
+    assert!(rt; file.len() > 125);
+    file[125] = 21;
+    assert_eq!(rt;
+        written(rt.alloc(), file.as_slice())?.as_slice(),
+        b"refused 5 at 126\n".as_slice()
     );
     Ok(())
 }

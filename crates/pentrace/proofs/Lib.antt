@@ -1,1 +1,7 @@
 mod Heads
+mod Words
+mod Said
+mod Following
+mod Lines
+mod Turns
+mod Reading

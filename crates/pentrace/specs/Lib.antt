@@ -1,3 +1,5 @@
+pub mod Words
 pub mod Orders
-pub mod Script
 pub mod Texts
+pub mod Script
+pub mod Reading

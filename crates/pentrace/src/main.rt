@@ -3,23 +3,38 @@
 // W, S bytes of space. Every `open` starts a new sheet.
 #![tactic(auto)]
 
-ghost use Rattle.pentrace.specs.Orders.{Said};
-ghost use Rattle.pentrace.specs.Script.{calls_in};
-ghost use Rattle.pentrace.specs.Texts.{call_text, heads_text, tree_text, answer_text, ending_text, misplaced_text, refusal_text};
-ghost use Rattle.std.specs.Prelude.{◌≡◌, [], ◌∷◌, ◌++◌, IfOk, vec_len, string_bytes, OnOk};
+mod script;
 
-use console::{ended, lines_of, refuse_arguments};
+ghost use Rattle.pentrace.specs.Orders.{Said, Reads, held};
+ghost use Rattle.console.specs.Lines.{lines_in};
+ghost use Rattle.pentrace.specs.Script.{calls_in, opens, PartText, ScriptText, SheetText, TurnsOf, Writes};
+ghost use Rattle.pentrace.specs.Texts.{call_text, heads_text, handed_text, answer_text, ending_text, misplaced_text, refusal_text, turn_text, lines_text, open_text, too_many_text};
+ghost use Rattle.run.specs.declared.Call.{Call};
+ghost use Rattle.run.specs.declared.Turn.{Turn};
+ghost use Rattle.std.specs.Io.KnownBytes.{Appends};
+ghost use Rattle.std.specs.Prelude.{◌≡◌, ℕ, ◌<◌, ◌≤◌, ◌^◌, List, Result, [], ◌∷◌, ◌++◌, length, IfOk, IfSome, vec_len, string_bytes, OnOk};
+ghost use Rattle.std.specs.Slice.Iter.{iter_rest};
+ghost use Rattle.weight.specs.Numbers.{Score};
+
+use console::{LineError, ended, lines_of, refuse_arguments};
 use desk::Memory;
 use ranking::Taken;
 use refusal::Refusal;
 use run::{Answer, Call, Turn};
+use script::Script;
 use std::alloc::{AllocError, Global};
-use std::io;
-use std::io::{BufReader, ErrorKind};
+use std::io::{BufRead, BufReader, ErrorKind, Write};
+use std::{io, slice};
 use weight::Score;
 
-// How many lines of a script may stand behind an `open`: its calls wait until the next, and an endless script is not waited for.
-const MOST_LINES: usize = 65_536;
+/// How a script ended.
+#[derive(Clone, Copy, PartialEq, Eq, Debug)]
+pub enum ScriptEnd {
+    /// each of its lines was read and answered
+    Whole,
+    /// more lines stood behind one `open`, or before the first, than are kept
+    TooMany,
+}
 
 // What a line of a script asks for.
 #[derive(Drop)]
@@ -33,13 +48,6 @@ enum Order {
 // A line of a script after an `open`: a call, or the number of a line that is no call.
 type Line = Result<Call<Score>, usize>;
 
-// The part of a script from an `open` up to the next; none is open before the first.
-#[derive(Drop)]
-struct Part {
-    words: Option<usize>,
-    lines: Vec<Line>,
-}
-
 // The order that a name and up to three numbers give.
 fn order_of(
     name: &str,
@@ -47,7 +55,7 @@ fn order_of(
     second: Option<&str>,
     third: Option<&str>,
 ) -> Option<Order>
-    ensures { Said name.now first.entry second.entry third.entry result }
+    ensures { Said name.now (held first.entry) (held second.entry) (held third.entry) result }
 {
     let call = match (name, first, second, third) {
         ("open", Some(words), None, None) => return Some(Order::Open(words.parse().ok()?)),
@@ -68,7 +76,9 @@ fn order_of(
 }
 
 // The order of a line; none where the line is no call.
-fn read_order(line: &[u8]) -> Option<Order> {
+fn read_order(line: &[u8]) -> Option<Order>
+    ensures { Reads line.now result }
+{
     let text = std::str::from_utf8(line).ok()?;
     let mut words = text.split_ascii_whitespace();
     let name = words.next()?;
@@ -122,7 +132,7 @@ fn tree_text(
     heads: &[u8; 40],
     taken: &Taken<Score>,
 ) -> Result<String, AllocError>
-    ensures { IfOk result (λ s. string_bytes s ≡ tree_text words heads.now taken.now) }
+    ensures { IfOk result (λ s. string_bytes s ≡ handed_text words heads.now taken.now) }
 {
     let count = taken.count;
     let weight = taken.weight.value();
@@ -173,101 +183,160 @@ fn answer_text(heap: Global, words: usize, turn: &Turn<Score>) -> Result<String,
     }
 }
 
-// Prints a call with its answer. A call without a turn had no sheet.
-fn print_call(
-    rt: &HostRuntime,
+// A call with its answer; a call without a turn had no sheet.
+fn turn_text(
+    heap: Global,
     words: usize,
     call: &Call<Score>,
     turn: Option<&Turn<Score>>,
-) -> io::Result<()> {
-    let call = call_text(rt.alloc(), call)?;
+) -> Result<String, AllocError>
+    ensures { IfOk result (λ s. string_bytes s ≡ turn_text words call.now (held turn.entry)) }
+{
+    let call = call_text(heap, call)?;
     match turn {
         Some(turn) => {
-            let answer = answer_text(rt.alloc(), words, turn)?;
-            println!(rt; "{call}: {answer}")
+            let answer = answer_text(heap, words, turn)?;
+            format!(in heap; "{call}: {answer}\n")
         }
-        None => println!(rt; "{call}: no sheet is open"),
+        None => format!(in heap; "{call}: no sheet is open\n"),
     }
 }
 
-// Prints the lines of a part, the calls among them with the turns of a run.
-fn print_lines(
-    rt: &HostRuntime,
+// The text of a line, a call with the first of the turns to come.
+fn line_text(
+    heap: Global,
+    words: usize,
+    line: &Line,
+    turns: &mut slice::Iter<'_, Turn<Score>>,
+) -> Result<String, AllocError>
+    ensures { IfOk result (λ s. (lines : List (Result (Call Score) ℕ)) → lines_text words (line.now ∷ lines) (iter_rest turns.old) ≡ string_bytes s ++ lines_text words lines (iter_rest turns.new)) }
+{
+    match line {
+        Ok(call) => turn_text(heap, words, call, turns.next()),
+        Err(number) => format!(in heap; "line {number}: no call\n"),
+    }
+}
+
+// Writes the lines of a part, the calls among them with the turns of a run.
+fn write_lines<W: Write>(
+    heap: Global,
     words: usize,
     lines: &[Line],
     turns: &[Turn<Score>],
-) -> io::Result<()> {
-    let mut turns = turns.iter();
+    out: &mut W,
+) -> io::Result<()>
+    ensures { OnOk result (Appends (W.contents out.old) (W.contents out.new) (lines_text words lines.now turns.now)) }
+{
+    let mut left = turns.iter();
     for line in lines {
-        match line {
-            Err(number) => println!(rt; "line {number}: no call")?,
-            Ok(call) => print_call(rt, words, call, turns.next())?,
-        }
+        let text = line_text(heap, words, line, &mut left)?;
+        out.write_all(text.as_bytes())?;
     }
     Ok(())
 }
 
-// Runs the calls after an `open`, and prints them.
-fn run_lines(rt: &HostRuntime, words: usize, lines: &[Line]) -> io::Result<()> {
-    let calls = calls_in(rt.alloc(), lines)?;
+// An `open` with its answer.
+fn open_text(heap: Global, words: usize, answer: &str) -> Result<String, AllocError>
+    ensures { IfOk result (λ s. string_bytes s ≡ open_text words answer.now) }
+{
+    format!(in heap; "open {words}: {answer}\n")
+}
+
+// Opens a sheet of so many words, makes the calls among the lines on it, and notes each with its answer; or why it is refused.
+fn turns_of(
+    heap: Global,
+    words: usize,
+    lines: &[Line],
+) -> Result<Result<Vec<Turn<Score>>, Refusal>, AllocError>
+    ensures { IfOk result (TurnsOf words lines.now) }
+{
+    let calls = calls_in(heap, lines)?;
     let blank = Turn {
         call: Call::Begin,
         answer: Answer::Misplaced,
     };
-    let mut turns = vec![in rt.alloc(); blank; calls.len()]?;
-    let mut memory = Memory::new(rt.alloc())?;
+    let mut turns = vec![in heap; blank; calls.len()]?;
+    let mut memory = Memory::new(heap)?;
     match memory.run(words, calls.as_slice(), turns.as_mut_slice()) {
-        Ok(()) => {
-            println!(rt; "open {words}: done")?;
-            print_lines(rt, words, lines, turns.as_slice())
+        Ok(()) => Ok(Ok(turns)),
+        Err(why) => Ok(Err(why)),
+    }
+}
+
+// Runs the calls behind an `open`, and writes all with their answers.
+fn write_sheet<W: Write>(heap: Global, words: usize, lines: &[Line], out: &mut W) -> io::Result<()>
+    ensures { OnOk result (Writes (W.contents out.old) (W.contents out.new) (SheetText (opens words) words lines.now)) }
+{
+    match turns_of(heap, words, lines)? {
+        Ok(turns) => {
+            let open = open_text(heap, words, "done")?;
+            out.write_all(open.as_bytes())?;
+            write_lines(heap, words, lines, turns.as_slice(), out)
         }
         Err(why) => {
-            let why = refusal_text(rt.alloc(), why)?;
-            println!(rt; "open {words}: {why}")?;
-            print_lines(rt, words, lines, &[])
+            let why = refusal_text(heap, why)?;
+            let open = open_text(heap, words, why.as_str())?;
+            out.write_all(open.as_bytes())?;
+            write_lines(heap, words, lines, &[], out)
         }
     }
 }
 
-// Runs a part of a script.
-fn run_part(rt: &HostRuntime, part: &Part) -> io::Result<()> {
-    match part.words {
-        Some(words) => run_lines(rt, words, part.lines.as_slice()),
-        None => print_lines(rt, 0, part.lines.as_slice(), &[]),
+// Runs a part of a script, and writes it with its answers.
+fn write_part<W: Write>(
+    heap: Global,
+    words: Option<usize>,
+    lines: &[Line],
+    out: &mut W,
+) -> io::Result<()>
+    ensures { OnOk result (Writes (W.contents out.old) (W.contents out.new) (PartText words lines.now)) }
+{
+    match words {
+        Some(words) => write_sheet(heap, words, lines, out),
+        None => write_lines(heap, 0, lines, &[], out),
     }
 }
 
-// Reads a script, and runs it part by part.
-fn run_script(rt: &HostRuntime) -> io::Result<()> {
+// The line that tells of the first line too many.
+fn too_many_text(heap: Global, number: usize) -> Result<String, AllocError>
+    ensures { IfOk result (λ s. string_bytes s ≡ too_many_text number) }
+{
+    format!(in heap; "line {number}: too many lines for one sheet\n")
+}
+
+/// Reads a script, and writes each of its lines with its answer, part by part; a reader or a writer that fails, and no memory, end it.
+/// Of a script that does not end, it reads no more than a part that is too long.
+pub fn run_script<R: BufRead + Drop, W: Write>(
+    heap: Global,
+    input: R,
+    out: &mut W,
+) -> Result<ScriptEnd, LineError>
+    ensures { IfOk result (λ end. IfSome (R.remaining input) (λ bytes. length bytes < 2 ^ 64 → Writes (W.contents out.old) (W.contents out.new) (ScriptText (lines_in bytes) end))) }
+{
+    let mut script = Script::new(heap);
+    for line in lines_of(heap, input) {
+        let line = line?;
+        if !script.step(heap, line.as_slice(), out)? {
+            return Ok(ScriptEnd::TooMany);
+        }
+    }
+    script.finish(heap, out)?;
+    Ok(ScriptEnd::Whole)
+}
+
+// Runs the script on standard input.
+fn run_input(rt: &HostRuntime) -> Result<(), LineError> {
     refuse_arguments(rt, "pentrace < SCRIPT")?;
-    let mut part = Part {
-        words: None,
-        lines: Vec::new(rt.alloc()),
-    };
-    let lines = lines_of(rt.alloc(), BufReader::new(rt.alloc(), rt.stdin())?);
-    for (number, line) in (1..).zip(lines) {
-        let order = read_order(line?.as_slice());
-        if let Some(Order::Open(words)) = order {
-            run_part(rt, &part)?;
-            part = Part {
-                words: Some(words),
-                lines: Vec::new(rt.alloc()),
-            };
-            continue;
-        }
-        if part.lines.len() >= MOST_LINES {
-            run_part(rt, &part)?;
-            println!(rt; "line {number}: too many lines for one sheet")?;
-            return Err(ErrorKind::FileTooLarge.into());
-        }
-        match order {
-            Some(Order::Call(call)) => part.lines.push(Ok(call))?,
-            _ => part.lines.push(Err(number))?,
-        }
+    let input = BufReader::new(rt.alloc(), rt.stdin())?;
+    match run_script(rt.alloc(), input, &mut rt.stdout())? {
+        ScriptEnd::Whole => Ok(()),
+        ScriptEnd::TooMany => Err(LineError::Io(ErrorKind::FileTooLarge.into())),
     }
-    run_part(rt, &part)
 }
 
 fn main(rt: HostRuntime) -> io::Result<()> {
-    ended(&rt, run_script(&rt))
+    ended(&rt, run_input(&rt))
 }
+
+#[cfg(test)]
+mod tests;

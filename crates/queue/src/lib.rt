@@ -13,13 +13,13 @@ ghost use Rattle.queue.specs.Runs.{CameOut, Emptied, RunRefused};
 ghost use Rattle.std.specs.Cmp.{IsStrictWeakOrder};
 ghost use Rattle.std.specs.List.Sorted.{IsPermutation};
 
-// A type whose values are ranked by a strict weak order. Of two different values it may be that neither outranks the other, which
-// `Ord` does not allow.
+/// A type whose values are ranked by a strict weak order. Of two different values it may be that neither outranks the other, which
+/// `Ord` does not allow.
 pub trait Ranked {
     // `above x y`: x outranks y.
     ghost above: { Self → Self → Bool };
 
-    // Whether this value outranks the other.
+    /// Whether this value outranks the other.
     fn outranks(&self, other: &Self) -> bool
         ensures { above self.now other.now ≡ result };
 
@@ -28,19 +28,19 @@ pub trait Ranked {
     ghost ranks: { IsStrictWeakOrder above };
 }
 
-// Why a call changed nothing.
+/// Why a call changed nothing.
 #[derive(Clone, Copy, PartialEq, Eq, Debug)]
 pub enum Refused {
-    // every slot is taken
+    /// every slot is taken
     Full,
-    // no element waits
+    /// no element waits
     Empty,
-    // the length is greater than the number of slots
+    /// the length is greater than the number of slots
     BeyondSlots,
 }
 
-// Puts x into the list, and gives the list's new length. In each public call the slots and the length are two arguments and
-// no struct, since the caller holds both as parts of larger memory of fixed size.
+/// Puts x into the list, and gives the list's new length. In each public call the slots and the length are two arguments and
+/// no struct, since the caller holds both as parts of larger memory of fixed size.
 pub fn push<T: Ranked + Copy>(slots: &mut [T], len: usize, x: T) -> Result<usize, Refused>
     ensures { MatchResult result (λ n. Pushed T.above slots.old len x slots.new n) (λ e. PushRefused (length slots.old) len e × (slots.new ≡ slots.old)) }
 {
@@ -54,7 +54,7 @@ pub fn push<T: Ranked + Copy>(slots: &mut [T], len: usize, x: T) -> Result<usize
     Ok(len + 1)
 }
 
-// Takes a greatest element out of the list, whose length is then `len - 1`.
+/// Takes a greatest element out of the list, whose length is then `len - 1`.
 pub fn pop<T: Ranked + Copy>(slots: &mut [T], len: usize) -> Result<T, Refused>
     ensures { MatchResult result (λ x. Popped T.above slots.old len slots.new x) (λ e. PopRefused (length slots.old) len e × (slots.new ≡ slots.old)) }
 {
@@ -67,7 +67,7 @@ pub fn pop<T: Ranked + Copy>(slots: &mut [T], len: usize) -> Result<T, Refused>
     Ok(take_first(&mut slots[..len]))
 }
 
-// Puts x into the list and drops a least element of those and x, which it gives: the list stays as long as it was.
+/// Puts x into the list and drops a least element of those and x, which it gives: the list stays as long as it was.
 pub fn push_drop_least<T: Ranked + Copy>(slots: &mut [T], len: usize, x: T) -> Result<T, Refused>
     ensures { MatchResult result (λ y. Dropped T.above slots.old len x slots.new y) (λ e. DropRefused (length slots.old) len e × (slots.new ≡ slots.old)) }
 {
@@ -77,8 +77,8 @@ pub fn push_drop_least<T: Ranked + Copy>(slots: &mut [T], len: usize, x: T) -> R
     Ok(keep_higher(&mut slots[..len], x))
 }
 
-// Pushes the given elements, in the order in which they stand, into an empty list, and pops them all into `out`:
-// whatever that order was, they come out falling.
+/// Pushes the given elements, in the order in which they stand, into an empty list, and pops them all into `out`:
+/// whatever that order was, they come out falling.
 pub fn rank<T: Ranked + Copy>(given: &[T], slots: &mut [T], out: &mut [T]) -> Result<(), Refused>
     ensures { MatchResult result (λ _. CameOut T.above given.now slots.old out.old slots.new out.new) (λ e. RunRefused (length given.now) (length slots.old) (length out.old) e × (slots.new ≡ slots.old) × (out.new ≡ out.old)) }
 {

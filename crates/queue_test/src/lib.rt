@@ -9,7 +9,7 @@ ghost use Rattle.std.proofs.Common.{rules};
 
 use queue::{Ranked, Refused};
 
-// A tree, as the heads of four words, with its weight.
+/// A tree, as the heads of four words, with its weight.
 #[derive(Clone, Copy, PartialEq, Eq, Debug)]
 pub struct Candidate {
     pub heads: [u8; 4],
@@ -27,7 +27,7 @@ impl Ranked for Candidate {
     }
 }
 
-// The given candidates, heaviest first.
+/// The given candidates, heaviest first.
 pub fn heaviest_first(given: [Candidate; 8]) -> [Candidate; 8]
     ensures same { IsPermutation given result }
     ensures falls { HeaviestFirst result }

@@ -4,29 +4,28 @@
 
 ghost use Rattle.std.specs.Prelude.{◌≡◌, ℕ, suc, ◌<◌, ◌≤◌, List, [], length, IfOk};
 ghost use Rattle.ranking.specs.Calls.{take_check, Took};
-ghost use Rattle.ranking.specs.Memory.{Memory, memory_of, HoldsArcs, StandsFor};
+ghost use Rattle.ranking.specs.Memory.{MemoryParts, memory_of, StandsFor};
 ghost use Rattle.ranking.specs.Order.{OneOrder};
 ghost use Rattle.ranking.specs.Steps.{NextTree, RoomFor};
 ghost use Rattle.ranking.specs.Takes.{FirstIsHeaviest, Settled};
-ghost use Rattle.search.specs.Space.{RoomIn, SameParts};
-ghost use Rattle.search.specs.State.{Room};
-ghost use Rattle.sheet.specs.Arcs.{Arcs};
+ghost use Rattle.search.specs.Space.{KeptBeyond, RoomIn, SameParts, space_of};
+ghost use Rattle.sheet.specs.Arcs.{Arcs, HoldsArcs};
 ghost use Rattle.sheet.specs.Calls.{checked};
 
 use refusal::Refusal;
-use search::{Node, Working};
+use search::Working;
 use sheet::{Candidate, Lengths, Sheet};
-use weight::{Kind, Opens, Root};
+use weight::{Kind, Opens};
 
 mod splitting;
 mod state;
 
 pub use state::{Ranking, Taken};
 
-// Turns an open sheet into a ranking with no tree taken.
+/// Turns an open sheet into a ranking with no tree taken.
 pub fn begin<K: Kind>(sheet: Sheet<K>) -> Ranking<K>
     ensures words { result.sheet.words ≡ sheet.words }
-    ensures law { (memory : Memory K) (arcs : Arcs K) → HoldsArcs K.Kind.worth K.Kind.ranges sheet.words memory.weights memory.sets arcs → StandsFor K.Kind.worth K.Kind.ranges result memory arcs [] }
+    ensures law { (memory : MemoryParts K) (arcs : Arcs K) → HoldsArcs K.Kind.worth K.Kind.ranges sheet.words memory.weights memory.sets arcs → StandsFor K.Kind.worth K.Kind.ranges result memory arcs [] }
 {
     Ranking {
         sheet,
@@ -35,10 +34,10 @@ pub fn begin<K: Kind>(sheet: Sheet<K>) -> Ranking<K>
     }
 }
 
-// Turns a ranking back into its open sheet.
+/// Turns a ranking back into its open sheet.
 pub fn end<K: Kind>(ranking: Ranking<K>) -> Sheet<K>
     ensures words { result.words ≡ ranking.sheet.words }
-    ensures law { (memory : Memory K) (arcs : Arcs K) (ts : List (List ℕ)) → StandsFor K.Kind.worth K.Kind.ranges ranking memory arcs ts → HoldsArcs K.Kind.worth K.Kind.ranges result.words memory.weights memory.sets arcs }
+    ensures law { (memory : MemoryParts K) (arcs : Arcs K) (ts : List (List ℕ)) → StandsFor K.Kind.worth K.Kind.ranges ranking memory arcs ts → HoldsArcs K.Kind.worth K.Kind.ranges result.words memory.weights memory.sets arcs }
 {
     let Ranking {
         sheet,
@@ -96,6 +95,7 @@ impl<K: Kind + Copy> Ranking<K> {
         ensures sets { sets.new ≡ sets.old }
         ensures next { NextTree K.Kind.worth K.Kind.ranges self.now weights.now sets.old candidates.old candidates.new result }
         ensures parts { SameParts working.old working.new }
+        ensures listed { KeptBeyond self.now.sheet.words (space_of working.old) (space_of working.new) }
     {
         if self.taken == 0 {
             let first = self
@@ -111,33 +111,9 @@ impl<K: Kind + Copy> Ranking<K> {
         };
         Ok((next, more - 1))
     }
-
-    // The next tree, sought in just so much of the working space as is lent. What lies beyond the slices is untouched by that,
-    // and they come one by one, since no struct is made of parts of slices that lie behind a `&mut`.
-    fn next_within(
-        &self,
-        weights: &[K],
-        sets: &mut [u64],
-        candidates: &mut [Candidate<K>],
-        nodes: &mut [Node<K>],
-        merges: &mut [Node<K>],
-        potentials: &mut [Root<K>],
-    ) -> Result<(Candidate<K>, usize), Refusal>
-        requires slots { 50 < length candidates.old }
-        requires room { Room self.now.sheet.words (length sets.old) (length weights.now) (length nodes.old) (length merges.old) (length potentials.old) }
-        ensures sets { sets.new ≡ sets.old }
-        ensures next { NextTree K.Kind.worth K.Kind.ranges self.now weights.now sets.old candidates.old candidates.new result }
-    {
-        let mut working = Working {
-            nodes,
-            merges,
-            potentials,
-        };
-        self.next_tree(weights, sets, candidates, &mut working)
-    }
 }
 
-// Hands out the heaviest untaken tree, of several the next in order: its heads go to the front of the space.
+/// Hands out the heaviest untaken tree, of several the next in order: its heads go to the front of the space.
 pub fn take<K: Opens + Copy>(
     ranking: &mut Ranking<K>,
     weights: &[K],
@@ -160,14 +136,7 @@ pub fn take<K: Opens + Copy>(
     };
     ranking.take_check(lengths, space.len())?;
     let words = ranking.sheet.words();
-    let (x, waiting) = ranking.next_within(
-        weights,
-        sets,
-        candidates,
-        &mut working.nodes[..words + 1],
-        &mut working.merges[..words - 1],
-        &mut working.potentials[..words + 1],
-    )?;
+    let (x, waiting) = ranking.next_tree(weights, sets, candidates, working)?;
     candidates[50] = x;
     let count = ranking.count_one(waiting);
     space[..words].copy_from_slice(&x.heads[..words]);
@@ -177,8 +146,8 @@ pub fn take<K: Opens + Copy>(
     })
 }
 
-// What follows from what a take tells, for every kind: the first tree is a heaviest; an answer is settled by the worths of the arcs that
-// stand and by the trees taken; and there is one order in which a sheet's trees come, which those worths settle.
+/// What follows from what a take tells, for every kind: the first tree is a heaviest; an answer is settled by the worths of the arcs that
+/// stand and by the trees taken; and there is one order in which a sheet's trees come, which those worths settle.
 pub fn laws<K: Kind>()
     ensures first { (n : ℕ) (arcs : Arcs K) → FirstIsHeaviest K.Kind.worth n arcs }
     ensures settled { (n : ℕ) → Settled K.Kind.worth n }

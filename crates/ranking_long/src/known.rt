@@ -54,24 +54,17 @@ fn open_two<K: Opens + Copy>(
     Ok(sheet)
 }
 
-// How many trees come when every arc is at 0, and the refusal that follows.
-fn count_out(
-    memory: &mut Memory<Score>,
-    words: usize,
-) -> Result<Option<(usize, Refusal)>, Refusal> {
-    let sheet = memory.open(words)?;
-    for dependent in 1..=words {
-        for head in 0..=words {
-            if head != dependent {
-                memory.put(&sheet, head, dependent, Score::new(0))?;
-            }
-        }
+// None of the weights is an entry.
+fn refuses<K: Opens + Copy>(
+    rt: &impl Abort,
+    memory: &mut Memory<K>,
+    sheet: &Sheet<K>,
+    beyond: &[K],
+) {
+    for weight in beyond {
+        let told = memory.put(sheet, 0, 1, *weight);
+        assert_eq!(rt; told, Err(Refusal::NoEntry));
     }
-    let mut ranking = ranking::begin(sheet);
-    Ok((0..51).find_map(|count| {
-        let refused = memory.take(&mut ranking, &mut [0; 4]).err();
-        refused.map(|why| (count, why))
-    }))
 }
 
 #[test]
@@ -118,18 +111,59 @@ fn known_costs_and_marks(rt: HostRuntime) -> Result<(), Fail> {
     Ok(())
 }
 
+// The least and the greatest entry of each kind are ranked; one beyond is refused, and changes nothing.
+#[test]
+fn ends_of_entries(rt: HostRuntime) -> Result<(), Fail> {
+    let mut scores = Memory::new(rt.alloc())?;
+    let ends = [1_000_000, -1_000_000, 1_000_000, -1_000_000];
+    let sheet = open_two(&mut scores, ends.map(Score::new))?;
+    let beyond = [1_000_001, -1_000_001].map(Score::new);
+    refuses(&rt, &mut scores, &sheet, &beyond);
+    hands_two(
+        &rt,
+        &mut scores,
+        sheet,
+        (&[0, 1], b"2000000"),
+        (&[2, 0], b"-2000000"),
+    )?;
+    let mut costs = Memory::new(rt.alloc())?;
+    let sheet = open_two(&mut costs, [0, 1_000_000, 0, 1_000_000].map(Cost::new))?;
+    refuses(&rt, &mut costs, &sheet, &[Cost::new(1_000_001)]);
+    hands_two(
+        &rt,
+        &mut costs,
+        sheet,
+        (&[0, 1], b"0"),
+        (&[2, 0], b"-2000000"),
+    )?;
+    let mut marks = Memory::new(rt.alloc())?;
+    let marked = |(mark, score)| Mark::new(mark, Score::new(score));
+    let ends = [
+        (9, 1_000_000),
+        (0, -1_000_000),
+        (9, 1_000_000),
+        (0, -1_000_000),
+    ];
+    let sheet = open_two(&mut marks, ends.map(marked))?;
+    let beyond = [(10, 0), (9, 1_000_001), (0, -1_000_001)].map(marked);
+    refuses(&rt, &mut marks, &sheet, &beyond);
+    hands_two(
+        &rt,
+        &mut marks,
+        sheet,
+        (&[0, 1], b"18,2000000"),
+        (&[2, 0], b"0,-2000000"),
+    )?;
+    Ok(())
+}
+
 #[test]
 fn limits(rt: HostRuntime) -> Result<(), Fail> {
     let mut memory = Memory::new(rt.alloc())?;
-    assert_eq!(rt; count_out(&mut memory, 1)?, Some((1, Refusal::NoMore)));
-    assert_eq!(rt; count_out(&mut memory, 3)?, Some((9, Refusal::NoMore)));
-    assert_eq!(rt; count_out(&mut memory, 4)?, Some((50, Refusal::Fifty)));
     assert!(rt; memory.open(0).err() == Some(Refusal::WordCount));
     assert!(rt; memory.open(41).err() == Some(Refusal::WordCount));
     let sheet = memory.open(40)?;
-    memory.put(&sheet, 40, 1, Score::new(1_000_000))?;
-    let more = memory.put(&sheet, 40, 2, Score::new(1_000_001));
-    assert_eq!(rt; more, Err(Refusal::NoEntry));
+    memory.put(&sheet, 40, 1, Score::new(1))?;
     memory.strike(&sheet, 40, 1)?;
     let absent = memory.strike(&sheet, 40, 2);
     assert_eq!(rt; absent, Err(Refusal::AbsentArc));

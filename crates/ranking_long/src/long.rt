@@ -17,6 +17,15 @@ struct Tree {
     weight: Score,
 }
 
+// How many different scores the arcs of a line have.
+#[derive(Clone, Copy)]
+enum Scores {
+    Many,
+    Three,
+    // all trees are equal
+    One,
+}
+
 // A score drawn from many.
 fn of_many(random: &mut Random) -> Score {
     let coarse = i64::from(random.below(200));
@@ -29,21 +38,21 @@ fn of_three(random: &mut Random) -> Score {
     Score::new(i64::from(random.below(3)) * 25)
 }
 
-// Puts every arc of forty words, with scores drawn from many or from three; just the loops are refused.
+// Puts every arc of forty words; just the loops are refused.
 fn put_all(
     rt: &impl Abort,
     memory: &mut Memory<Score>,
     plain: &mut Plain<Score>,
     sheet: &Sheet<Score>,
-    many: bool,
+    scores: Scores,
     random: &mut Random,
 ) {
     for dependent in 1..41 {
         for head in 0..41 {
-            let weight = if many {
-                of_many(random)
-            } else {
-                of_three(random)
+            let weight = match scores {
+                Scores::Many => of_many(random),
+                Scores::Three => of_three(random),
+                Scores::One => Score::new(0),
             };
             let told = memory.put(sheet, head, dependent, weight);
             assert_eq!(rt; told, plain.put(head, dependent, weight));
@@ -51,23 +60,43 @@ fn put_all(
     }
 }
 
+// Fills a part of the working space with records that differ from one another: what searches left there in another order, and new ones
+// between.
+fn litter_nodes(nodes: &mut [Node<Score>], random: &mut Random) {
+    nodes.reverse();
+    for node in nodes.iter_mut() {
+        if random.below(2) == 0 {
+            *node = Node::new(of_many(random));
+        }
+    }
+}
+
+// The same for the potentials.
+fn litter_potentials(potentials: &mut [Root<Score>], random: &mut Random) {
+    potentials.reverse();
+    for potential in potentials.iter_mut() {
+        if random.below(2) == 0 {
+            *potential = Root::new(usize::from(random.below(2)), of_many(random));
+        }
+    }
+}
+
 // Makes fifty takes, and notes their trees; they have the right counts, and the next take is refused.
-// Where it is to litter, the working space is filled with something else before each take.
+// Where it is told so, the working space is littered before each take.
 fn take_fifty(
     rt: &impl Abort,
     heap: Global,
     memory: &mut Memory<Score>,
     ranking: &mut Ranking<Score>,
-    litter: bool,
+    littered: bool,
 ) -> Result<Vec<Tree>, Fail> {
     let mut random = Random { seed: 3 };
     let mut trees = Vec::new(heap);
     for count in 1..51 {
-        if litter {
-            let weight = Score::new(i64::from(random.below(200)) * 1000 - 100_000);
-            memory.nodes.fill(Node::new(weight));
-            memory.merges.fill(Node::new(weight));
-            memory.potentials.fill(Root::new(0, weight));
+        if littered {
+            litter_nodes(&mut memory.nodes, &mut random);
+            litter_nodes(&mut memory.merges, &mut random);
+            litter_potentials(&mut memory.potentials, &mut random);
         }
         let mut heads = [0; 40];
         let taken = memory.take(ranking, &mut heads)?;
@@ -133,7 +162,7 @@ fn none_left(plain: &Plain<Score>, trees: &[Tree]) -> bool {
 }
 
 // Fifty takes go as they should, and alike in a working space that is littered.
-fn fifty(rt: &(impl Abort + AllocGlobal), many: bool, seed: u64) -> Result<(), Fail> {
+fn fifty(rt: &(impl Abort + AllocGlobal), scores: Scores, seed: u64) -> Result<(), Fail> {
     let mut memory = Memory::new(rt.alloc())?;
     let mut plain = Plain::new(rt.alloc())?;
     plain.reset(40);
@@ -143,7 +172,7 @@ fn fifty(rt: &(impl Abort + AllocGlobal), many: bool, seed: u64) -> Result<(), F
         &mut memory,
         &mut plain,
         &sheet,
-        many,
+        scores,
         &mut Random { seed },
     );
     let mut ranking = ranking::begin(sheet);
@@ -168,7 +197,8 @@ fn fifty(rt: &(impl Abort + AllocGlobal), many: bool, seed: u64) -> Result<(), F
 #[test]
 fn forty_words(rt: HostRuntime) -> Result<(), Fail> {
     for seed in 1..21 {
-        fifty(&rt, true, seed)?;
+        fifty(&rt, Scores::Many, seed)?;
     }
-    fifty(&rt, false, 21)
+    fifty(&rt, Scores::Three, 21)?;
+    fifty(&rt, Scores::One, 22)
 }

@@ -1,4 +1,5 @@
-// Random sheets of one to five words: their rankings are those that an enumeration of all lists of heads allows.
+// Sheets of one to five words, drawn at random or with every arc at 0: their rankings are those that an enumeration of all lists of heads
+// allows.
 use crate::trial::{Drawn, Trial};
 use desk::Random;
 use pair::Pair;
@@ -68,4 +69,16 @@ fn marks_as_enumerated(rt: HostRuntime) -> Result<(), Fail> {
 #[test]
 fn pairs_as_enumerated(rt: HostRuntime) -> Result<(), Fail> {
     agree::<Pair>(&rt)
+}
+
+// Every arc at 0: of n words n^(n-1) trees stand, and as many are handed out as are no more than fifty.
+#[test]
+fn every_arc_at_nothing(rt: HostRuntime) -> Result<(), Fail> {
+    let mut trial = Trial::<Score>::new(rt.alloc(), 1)?;
+    for (words, trees) in [(1, 1), (2, 2), (3, 9), (4, 64), (5, 625)] {
+        let sheet = trial.open_level(&rt, words, Score::new(0))?;
+        assert_eq!(rt; trial.trees(rt.alloc())?.count(), trees);
+        trial.rank(&rt, sheet, 53)?;
+    }
+    Ok(())
 }

@@ -13,7 +13,7 @@ struct Tree<K> {
     weight: K,
 }
 
-// The trees of a sheet that wait to be handed out, and how many were.
+/// The trees of a sheet that wait to be handed out, and how many were.
 #[derive(Drop)]
 pub struct Trees<K> {
     waiting: Vec<Tree<K>>,
@@ -21,7 +21,7 @@ pub struct Trees<K> {
 }
 
 impl<K: Kind + Copy> Trees<K> {
-    // All trees of a sheet, none of them handed out.
+    /// All trees of a sheet, none of them handed out.
     pub fn new(heap: Global, plain: &Plain<K>) -> Result<Trees<K>, AllocError> {
         // at most 5 fits a byte
         let words = plain.words.min(5) as u8;
@@ -35,7 +35,12 @@ impl<K: Kind + Copy> Trees<K> {
         Ok(Trees { waiting, handed: 0 })
     }
 
-    // Whether the next take should hand out a tree, or which refusal it should tell.
+    /// How many trees wait.
+    pub fn count(&self) -> usize {
+        self.waiting.len()
+    }
+
+    /// Whether the next take should hand out a tree, or which refusal it should tell.
     pub fn check(&self) -> Result<(), Refusal> {
         if self.handed == 50 {
             Err(Refusal::Fifty)
@@ -48,7 +53,7 @@ impl<K: Kind + Copy> Trees<K> {
         }
     }
 
-    // Hands out the tree with these heads; whether a take may do so now, with this weight and count.
+    /// Hands out the tree with these heads; whether a take may do so now, with this weight and count.
     pub fn hands_out(&mut self, heads: &[u8], taken: &Taken<K>) -> bool {
         let weight = &taken.weight;
         let Some(place) = self

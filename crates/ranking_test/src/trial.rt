@@ -11,7 +11,7 @@ use std::process::Abort;
 use std::test::Fail;
 use weight::{Cost, Mark, Opens, Score};
 
-// A kind whose weights can be drawn at random, from so few that many are equal.
+/// A kind whose weights can be drawn at random, from so few that many are equal.
 pub trait Drawn: Opens {
     fn drawn(random: &mut Random) -> Self;
 }
@@ -42,7 +42,7 @@ impl Drawn for Pair {
     }
 }
 
-// The memory of a sheet, a plain record of what stands on the sheet, and the random numbers that its arcs are drawn with.
+/// The memory of a sheet, a plain record of what stands on the sheet, and the random numbers that its arcs are drawn with.
 #[derive(Drop)]
 pub struct Trial<K> {
     memory: Memory<K>,
@@ -59,15 +59,14 @@ impl<K: Drawn + Copy> Trial<K> {
         })
     }
 
-    // Puts an arc with a random weight; the answer is as it should be.
-    fn put(
-        &mut self,
-        rt: &(impl Abort + AllocGlobal),
-        sheet: &Sheet<K>,
-        head: usize,
-        dependent: usize,
-    ) {
-        let weight = K::drawn(&mut self.random);
+    // Opens a sheet.
+    fn open(&mut self, words: usize) -> Result<Sheet<K>, Refusal> {
+        self.plain.reset(words);
+        self.memory.open(words)
+    }
+
+    // Puts an arc; the answer is as it should be.
+    fn put(&mut self, rt: &impl Abort, sheet: &Sheet<K>, head: usize, dependent: usize, weight: K) {
         let told = self.memory.put(sheet, head, dependent, weight);
         assert_eq!(rt; told, self.plain.put(head, dependent, weight));
     }
@@ -84,46 +83,68 @@ impl<K: Drawn + Copy> Trial<K> {
         assert_eq!(rt; told, self.plain.strike(head, dependent));
     }
 
-    // Opens a sheet with random arcs, so many of six.
+    /// Opens a sheet with random arcs, so many of six.
     pub fn draw(
         &mut self,
         rt: &(impl Abort + AllocGlobal),
         words: usize,
         dense: u8,
     ) -> Result<Sheet<K>, Fail> {
-        self.plain.reset(words);
-        let sheet = self.memory.open(words)?;
+        let sheet = self.open(words)?;
         for dependent in 1..6 {
             for head in 0..6 {
                 if self.random.below(6) < dense {
-                    self.put(rt, &sheet, head, dependent);
+                    let weight = K::drawn(&mut self.random);
+                    self.put(rt, &sheet, head, dependent, weight);
                 }
             }
         }
         Ok(sheet)
     }
 
-    // Puts or strikes a few arcs, some of them no arcs of the line.
+    /// Opens a sheet on which every arc of the line has this weight; just the loops are refused.
+    pub fn open_level(
+        &mut self,
+        rt: &impl Abort,
+        words: usize,
+        weight: K,
+    ) -> Result<Sheet<K>, Refusal> {
+        let sheet = self.open(words)?;
+        for dependent in 1..=words {
+            for head in 0..=words {
+                self.put(rt, &sheet, head, dependent, weight);
+            }
+        }
+        Ok(sheet)
+    }
+
+    /// All trees of the sheet that was opened last, by the record of what stands there.
+    pub fn trees(&self, heap: Global) -> Result<Trees<K>, AllocError> {
+        Trees::new(heap, &self.plain)
+    }
+
+    /// Puts or strikes a few arcs, some of them no arcs of the line.
     pub fn edit(&mut self, rt: &(impl Abort + AllocGlobal), sheet: &Sheet<K>) {
         for _ in 0..6 {
             let head = usize::from(self.random.below(7));
             let dependent = usize::from(self.random.below(7));
             if self.random.below(2) == 0 {
-                self.put(rt, sheet, head, dependent);
+                let weight = K::drawn(&mut self.random);
+                self.put(rt, sheet, head, dependent, weight);
             } else {
                 self.strike(rt, sheet, head, dependent);
             }
         }
     }
 
-    // Makes so many takes of a new ranking, each after one into too little space, and ends it; each answer is as it should be.
+    /// Makes so many takes of a new ranking, each after one into too little space, and ends it; each answer is as it should be.
     pub fn rank(
         &mut self,
         rt: &(impl Abort + AllocGlobal),
         sheet: Sheet<K>,
         takes: usize,
     ) -> Result<Sheet<K>, Fail> {
-        let mut trees = Trees::new(rt.alloc(), &self.plain)?;
+        let mut trees = self.trees(rt.alloc())?;
         let mut ranking = ranking::begin(sheet);
         for _ in 0..takes {
             let before = self.memory.sets.clone()?;

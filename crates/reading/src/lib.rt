@@ -7,8 +7,8 @@ ghost use Rattle.std.specs.Prelude.{◌≡◌, ◌≤◌, IfOk, MatchOption};
 
 use std::alloc::{AllocError, Global};
 
-// The numbers of a line: decimal, without leading zeros, 0 to 255, one blank between.
-// None where the line is no such list: it is no error, so `return` gives it back and not `?`.
+/// The numbers of a line: decimal, without leading zeros, 0 to 255, one blank between.
+/// None where the line is no such list: it is no error, so `return` gives it back and not `?`.
 #[tactic(auto, using(crate::proofs::Readings::read_none, crate::proofs::Readings::all_read, crate::proofs::Readings::digit_more, crate::proofs::Readings::front_more, std::proofs::lemmas::List::drop_more, std::proofs::lemmas::List::drop_all))]
 pub fn read_spaced(heap: Global, line: &[u8]) -> Result<Option<Vec<u8>>, AllocError>
     ensures { IfOk result (λ o. MatchOption o (SpellsNone line.now) (λ v. Spells line.now v.items)) }
@@ -56,7 +56,7 @@ fn digit_behind(number: Option<u8>, digit: u8) -> Option<u8>
     }
 }
 
-// What holds of lines of numbers.
+/// What holds of lines of numbers.
 pub fn laws()
     ensures { SpelledOnce }
 {}

@@ -1,13 +1,15 @@
 -- Two runs that have come to the same are answered alike.
-use Rattle.std.proofs.Common.{◌≡◌, ℕ, ◌<◌, ◌≤◌, Bool, true, false, cond, ◌⊎◌, List, [], ◌∷◌, ◌++◌, map, reverse, length, take, drop, is_some, Some, None, Ok, Err, Option, sym, refl, ap, ◌∙◌, subst, inl, inr, arith}
+use Rattle.std.proofs.Common.{◌≡◌, ℕ, zero, suc, ◌+◌, ◌<◌, ◌≤◌, Bool, true, false, cond, ◌⊎◌, List, [], ◌∷◌, ◌++◌, map, reverse, length, take, drop, is_some, Some, None, Ok, Err, Option, sym, refl, ap, ◌∙◌, subst, inl, inr, arith}
 use Rattle.std.proofs.lemmas.Bool.{cases_lt, cases_Bool}
-use Rattle.std.proofs.lemmas.List.{append-nil, reverse-append, reverse-reverse, take-append-drop}
+use Rattle.std.proofs.lemmas.List.{append-nil, length-append, length-map, length-reverse, map-append, reverse-append, reverse-reverse, take-append-drop}
+use Rattle.file.specs.Formats.{Format}
 use Rattle.ranking.proofs.Settling.{one_order, settled}
 use Rattle.ranking.specs.Order.{InOrder, SameWorths}
 use Rattle.ranking.specs.Trees.{weight_worth}
 use Rattle.refusal.specs.declared.Refusal.TheVariants.{ShortSpace}
 use Rattle.run.proofs.Truly.{truly}
-use Rattle.run.specs.Alike.{TurnByTurn, CallAlike, AnswerAlike, CallsAlike, AnswersAlike, StandAlike, CameAlike, CallsSettle, RunsAlike}
+use Rattle.run.specs.Alike.{TurnByTurn, CallAlike, AnswerAlike, CallsAlike, AnswersAlike, StandAlike, CameAlike, CallsSettle, RunsAlike, FreshAlike, ByHandAlike}
+use Rattle.run.specs.Files.{file_turns, file_puts}
 use Rattle.run.specs.Law.{Run, standing, arcs_after, taken, taken_after, ranks, ranks_after, put_answer, strike_answer, TakeTells, TakeAnswers, Answers, Keeps}
 use Rattle.run.specs.declared.Answer.TheVariants.{Done, Handed, Refused, Misplaced}
 use Rattle.run.specs.declared.Answer.{Answer}
@@ -186,12 +188,34 @@ module _ {K : Type 0} (worth : K → Worth) where
   same_calls (t ∷ run) [] e = absurd (omega (arith, ap length e))
   same_calls (t ∷ run) (s ∷ other) e = (subst (CallAlike worth t.call) (ap (first_call t.call) e) (call_alike_itself t.call), same_calls run other (ap (drop 1) e))
 
-pub runs_alike : {K : Type 0} (worth : K → Worth) (ranges : List Range) → RunsAlike worth ranges
-runs_alike {K} worth ranges n calls memory memory' other other' turns turns' notes notes' r q =
-    let xs = take (length calls) turns' in
-    let ys = take (length calls) notes' in
-    let whole : (zs : Run K) → Keeps worth ranges n (reverse zs) → Keeps worth ranges n (reverse zs ++ []) = λ zs. subst (Keeps worth ranges n) (sym (append-nil (reverse zs))) in
+-- the answers of two runs with the same calls whose beginnings have come to the same
+noted_alike : {K : Type 0} (worth : K → Worth) (ranges : List Range) (n : ℕ) (first first' xs ys : Run K) → CameAlike worth n first first' → Keeps worth ranges n (reverse xs ++ first) → Keeps worth ranges n (reverse ys ++ first') → map (λ t. t.call) xs ≡ map (λ t. t.call) ys →
+    AnswersAlike worth xs ys
+noted_alike worth ranges n first first' xs ys came keeps keeps' same =
     turned_back (λ t s. AnswerAlike worth t.answer s.answer) xs ys
-    (calls_settle worth ranges n [] [] (reverse xs) (reverse ys) (whole xs r.keeps) (whole ys q.keeps)
-    (record { worths = record { stand = λ h d. refl; weigh = λ h d. refl }; ranked = refl; counts = λ t. refl })
-    (turned (λ t s. CallAlike worth t.call s.call) xs ys (same_calls worth xs ys (r.noted ∙ sym q.noted)))).0
+    (calls_settle worth ranges n first first' (reverse xs) (reverse ys) keeps keeps' came (turned (λ t s. CallAlike worth t.call s.call) xs ys (same_calls worth xs ys same))).0
+
+came_fresh : {K : Type 0} (worth : K → Worth) (n : ℕ) → CameAlike worth n [] []
+came_fresh worth n = record { worths = record { stand = λ h d. refl; weigh = λ h d. refl }; ranked = refl; counts = λ t. refl }
+
+pub runs_alike : {K : Type 0} (worth : K → Worth) (ranges : List Range) → RunsAlike worth ranges
+runs_alike worth ranges n first first' calls memory memory' other other' turns turns' notes notes' came r q =
+    noted_alike worth ranges n first first' (take (length calls) turns') (take (length calls) notes') came r.keeps q.keeps (r.noted ∙ sym q.noted)
+
+pub fresh_alike : {K : Type 0} (worth : K → Worth) (ranges : List Range) → FreshAlike worth ranges
+fresh_alike worth ranges n calls memory memory' other other' turns turns' notes notes' r q = runs_alike worth ranges n [] [] calls memory memory' other other' turns turns' notes notes' (came_fresh worth n) r q
+
+-- a file has so many puts
+puts_long : {K : Type 0} (f : Format K) (file : List ℕ) (count : ℕ) → length (file_turns f file count) ≡ count
+puts_long f file zero = refl
+puts_long f file (suc count) = ap suc (puts_long f file count)
+
+pub by_hand_alike : {K : Type 0} (worth : K → Worth) (ranges : List Range) → ByHandAlike worth ranges
+by_hand_alike {K} worth ranges n f file count calls memory memory' other other' turns turns' notes notes' r q =
+    let first = file_turns f file count in
+    let made = take (length calls) turns' in
+    let long : length (file_puts f file count ++ calls) ≡ count + length calls = length-append (file_puts f file count) calls ∙ ap (λ (m : ℕ). m + length calls) (length-map (reverse first) (λ t. t.call) ∙ (length-reverse first ∙ puts_long f file count)) in
+    let all = subst (λ (m : ℕ). (map (λ t. t.call) (take m notes') ≡ file_puts f file count ++ calls) × Keeps worth ranges n (reverse (take m notes') ++ [])) long (q.noted, q.keeps) in
+    let whole : reverse (reverse first ++ made) ++ [] ≡ reverse made ++ first = append-nil (reverse (reverse first ++ made)) ∙ (reverse-append (reverse first) made ∙ ap (λ (xs : Run K). reverse made ++ xs) (reverse-reverse first)) in
+    noted_alike worth ranges n [] [] (reverse first ++ made) (take (count + length calls) notes') (came_fresh worth n) (subst (Keeps worth ranges n) (sym whole) r.keeps) all.1
+    (map-append (λ t. t.call) (reverse first) made ∙ (ap (λ (cs : List (Call K)). file_puts f file count ++ cs) r.noted ∙ sym all.0))

@@ -1,4 +1,5 @@
 mod Turns
 mod Runs
+mod Files
 mod Truly
 mod Alike

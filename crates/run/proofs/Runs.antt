@@ -1,29 +1,28 @@
 -- A run grows by one turn, and what it comes to in the end.
-use Rattle.std.proofs.Common.{◌≡◌, ℕ, ◌+◌, ◌<◌, ◌≤◌, false, ◌||◌, eqb, ltb, List, [], ◌∷◌, ◌++◌, map, reverse, length, get_or, take, drop, set, Some, None, Ok, Err, Option, sym, refl, ap, ◌∙◌, subst, arith}
-use Rattle.ranking.specs.Calls.{lengths_of}
-use Rattle.ranking.specs.Memory.{Memory}
+use Rattle.std.proofs.Common.{◌≡◌, ℕ, ◌+◌, ◌<◌, false, ◌||◌, eqb, ltb, List, [], ◌∷◌, ◌++◌, map, reverse, length, get_or, take, drop, set, Some, None, Ok, Err, Option, sym, refl, ap, ◌∙◌, subst, arith}
+use Rattle.ranking.specs.Calls.{part_lengths}
+use Rattle.ranking.specs.Memory.{MemoryParts}
 use Rattle.refusal.specs.declared.Refusal.TheVariants.{WordCount, ShortMemory}
 use Rattle.refusal.specs.declared.Refusal.{Refusal}
 use Rattle.run.specs.Loans.{lists_of, SameLoans}
-use Rattle.run.specs.declared.Memory.{Memory as Loans}
+use Rattle.run.specs.declared.LentMemory.{LentMemory as Loans}
 use Rattle.run.specs.Law.{Run, standing, taken, ranks, ranks_after, Keeps}
-use Rattle.run.specs.Steps.{words_of, ranked, SameRest, Is, Stepped, Ran, run_check}
+use Rattle.run.specs.Steps.{line_words, ranked, SameRest, Is, Stepped, Begins, Ran, turns_check, run_check}
 use Rattle.run.specs.declared.Call.{Call}
 use Rattle.run.specs.declared.State.TheVariants.{Open, Ranked}
 use Rattle.run.specs.declared.State.{State}
 use Rattle.run.specs.declared.Turn.{Turn}
 use Rattle.run.proofs.Turns.{same_all}
 use Rattle.sheet.proofs.Tables.{passes, last_passes}
-use Rattle.sheet.specs.Arcs.{arcs_in, no_arcs}
-use Rattle.sheet.specs.Calls.{refuse_if, open_check, too_short, Answered, Holds}
+use Rattle.sheet.specs.Arcs.{arcs_in}
+use Rattle.sheet.specs.Calls.{refuse_if, checked, open_check, too_short, Answered}
 use Rattle.sheet.specs.declared.Lengths.{Lengths}
 use Rattle.sheet.specs.declared.Sheet.{Sheet}
 use Rattle.std.proofs.lemmas.List.{take_more_set, take_more, map_push, reverse-append, drop-set-lt, drop-drop, take_all}
-use Rattle.std.proofs.lemmas.Bool.{le-ltb}
 use Rattle.weight.specs.Range.{Range}
 use Rattle.weight.specs.Worth.{Worth}
 
-same_more : {K : Type 0} (n : ℕ) (a b c : Memory K) → SameRest n a b → SameRest n b c → SameRest n a c
+same_more : {K : Type 0} (n : ℕ) (a b c : MemoryParts K) → SameRest n a b → SameRest n b c → SameRest n a c
 same_more n a b c p q = record {
   weights = q.weights ∙ p.weights;
   sets = q.sets ∙ p.sets;
@@ -31,7 +30,7 @@ same_more n a b c p q = record {
 }
 
 -- the same parts are as long as before
-pub still_long : {K : Type 0} (n : ℕ) (before after : Loans K) → SameLoans before after → too_short n (lengths_of (lists_of before)) ≡ false → too_short n (lengths_of (lists_of after)) ≡ false
+pub still_long : {K : Type 0} (n : ℕ) (before after : Loans K) → SameLoans before after → too_short n (part_lengths (lists_of before)) ≡ false → too_short n (part_lengths (lists_of after)) ≡ false
 still_long n before after p short = subst (λ (l : Lengths). too_short n l ≡ false) (sym p.long) short
 
 pub same_on : {K : Type 0} (a b c : Loans K) → SameLoans a b → SameLoans b c → SameLoans a c
@@ -46,43 +45,44 @@ same_on a b c p q =
       long = q.long ∙ p.long;
     }
 
-module _ {K : Type 0} (worth : K → Worth) (ranges : List Range) (n : ℕ) (first : Memory K) where
+-- turns that the run `first` comes before, on the memory `start`
+module _ {K : Type 0} (worth : K → Worth) (ranges : List Range) (n : ℕ) (first : Run K) (start : MemoryParts K) where
   -- where the run stands after some turns, the newest first
-  pub record Going (state : State K) (memory : Memory K) (run : Run K) : Type 0 where
-    pub words : words_of state ≡ n
+  pub record Going (state : State K) (memory : MemoryParts K) (run : Run K) : Type 0 where
+    pub words : line_words state ≡ n
     pub ranking : ranked state ≡ ranks run
-    pub rest : SameRest n first memory
+    pub rest : SameRest n start memory
     pub is : Is worth ranges state memory (standing run) (taken n run)
     pub keeps : Keeps worth ranges n run
 
   -- one turn more
-  pub goes_on : (state state' : State K) (memory memory' : Memory K) (run : Run K) (t : Turn K) → too_short n (lengths_of memory) ≡ false → Stepped worth ranges state state' memory memory' t.call t.answer → Going state memory run → Going state' memory' (t ∷ run)
+  pub goes_on : (state state' : State K) (memory memory' : MemoryParts K) (run : Run K) (t : Turn K) → too_short n (part_lengths memory) ≡ false → Stepped worth ranges state state' memory memory' t.call t.answer → Going state memory run → Going state' memory' (t ∷ run)
   goes_on state state' memory memory' run t enough s g =
       let e = g.words in
       let l = s.law (standing run) (taken n run) (rw e enough) g.is in
       record {
         words = s.words ∙ e;
         ranking = s.ranking ∙ ap (ranks_after t.call t.answer) g.ranking;
-        rest = same_more n first memory memory' g.rest (rw e at s.rest);
+        rest = same_more n start memory memory' g.rest (rw e at s.rest);
         is = rw e at l.1;
         keeps = (rw (e, g.ranking) at l.0, g.keeps);
       }
 
   -- the arcs that the memory holds
-  arcs_held : (state : State K) (memory : Memory K) (run : Run K) → Going state memory run → (h d : ℕ) → arcs_in n memory.weights memory.sets h d ≡ standing run h d
+  arcs_held : (state : State K) (memory : MemoryParts K) (run : Run K) → Going state memory run → (h d : ℕ) → arcs_in n memory.weights memory.sets h d ≡ standing run h d
   arcs_held state memory run g h d = rw g.words at (by state g.is)
     where
-      by : (state : State K) → Is worth ranges state memory (standing run) (taken n run) → arcs_in (words_of state) memory.weights memory.sets h d ≡ standing run h d
+      by : (state : State K) → Is worth ranges state memory (standing run) (taken n run) → arcs_in (line_words state) memory.weights memory.sets h d ≡ standing run h d
       by (Open s) is = is.standing h d
       by (Ranked r) is = is.sheet.standing h d
 
   -- the first i turns are noted, and the others are as they were
-  pub record Noted (calls : List (Call K)) (turns turns' : List (Turn K)) (i : ℕ) (state : State K) (memory : Memory K) : Type 0 where
+  pub record Noted (calls : List (Call K)) (turns turns' : List (Turn K)) (i : ℕ) (state : State K) (memory : MemoryParts K) : Type 0 where
     pub calls_are : map (λ t. t.call) (take i turns') ≡ take i calls
     pub turns_are : drop i turns' ≡ drop i turns
-    pub going : Going state memory (reverse (take i turns'))
+    pub going : Going state memory (reverse (take i turns') ++ first)
 
-  pub notes_on : (calls : List (Call K)) (turns turns' : List (Turn K)) (i : ℕ) (state state' : State K) (memory memory' : Memory K) (t : Turn K) → i < length calls → i < length turns' → t.call ≡ get_or calls i t.call → too_short n (lengths_of memory) ≡ false →
+  pub notes_on : (calls : List (Call K)) (turns turns' : List (Turn K)) (i : ℕ) (state state' : State K) (memory memory' : MemoryParts K) (t : Turn K) → i < length calls → i < length turns' → t.call ≡ get_or calls i t.call → too_short n (part_lengths memory) ≡ false →
       Stepped worth ranges state state' memory memory' t.call t.answer → Noted calls turns turns' i state memory → Noted calls turns (set turns' i t) (i + 1) state' memory'
   notes_on calls turns turns' i state state' memory memory' t lc lt is enough s g =
       let e : reverse (take (i + 1) (set turns' i t)) ≡ t ∷ reverse (take i turns') = ap reverse (take_more_set turns' i t lt) ∙ reverse-append (take i turns') (t ∷ []) in
@@ -90,37 +90,33 @@ module _ {K : Type 0} (worth : K → Worth) (ranges : List Range) (n : ℕ) (fir
         calls_are = ap (map (λ t. t.call)) (take_more_set turns' i t lt) ∙ map_push (λ t. t.call) (take i turns') t
             ∙ (ap (λ (xs : List (Call K)). xs ++ t.call ∷ []) g.calls_are ∙ ap (λ (x : Call K). take i calls ++ x ∷ []) is) ∙ sym (take_more calls i t.call lc);
         turns_are = drop-set-lt (i + 1) turns' i t (omega arith) ∙ (drop_one turns' ∙ (ap (drop 1) g.turns_are ∙ sym (drop_one turns)));
-        going = subst (Going state' memory') (sym e) (goes_on state state' memory memory' (reverse (take i turns')) t enough s g.going);
+        going = subst (λ (run : Run K). Going state' memory' (run ++ first)) (sym e) (goes_on state state' memory memory' (reverse (take i turns') ++ first) t enough s g.going);
       }
     where
       drop_one : (xs : List (Turn K)) → drop (i + 1) xs ≡ drop 1 (drop i xs)
       drop_one xs = sym (drop-drop 1 i xs)
 
   -- all calls were made
-  pub all_noted : (calls : List (Call K)) (turns turns' : List (Turn K)) (i : ℕ) (state : State K) (start memory : Memory K) → i ≡ length calls → SameRest n start first → Noted calls turns turns' i state memory → Ran worth ranges n calls start memory turns turns'
-  all_noted calls turns turns' i state start memory e r g =
+  pub all_noted : (calls : List (Call K)) (turns turns' : List (Turn K)) (i : ℕ) (state : State K) (memory : MemoryParts K) → i ≡ length calls → Noted calls turns turns' i state memory → Ran worth ranges n first calls start memory turns turns'
+  all_noted calls turns turns' i state memory e g =
       let h = subst (λ (m : ℕ). Noted calls turns turns' m state memory) e g in
       record {
         noted = h.calls_are ∙ take_all (length calls) calls (omega arith);
         keeps = h.going.keeps;
-        arcs = arcs_held state memory (reverse (take (length calls) turns')) h.going;
-        rest = same_more n start first memory r h.going.rest;
+        arcs = arcs_held state memory (reverse (take (length calls) turns') ++ first) h.going;
+        rest = h.going.rest;
         turns_beyond = h.turns_are;
       }
 
-  -- a fresh sheet
-  pub fresh : (sheet : Sheet K) (calls : List (Call K)) (turns : List (Turn K)) (weights : List K) (sets : List ℕ) → sheet.words ≡ n → Holds n no_arcs weights first.weights sets first.sets → Noted calls turns turns 0 (Open sheet) first
-  fresh sheet calls turns weights sets e h = record {
-    calls_are = refl;
-    turns_are = refl;
-    going = record {
-      words = e;
-      ranking = refl;
-      rest = same_all n first;
-      is = record { standing = λ a b. rw e (h.standing a b); entries = λ a b k q. absurd cc };
-      keeps = tt;
-    };
-  }
+  -- none was made yet
+  pub none_noted : (sheet : Sheet K) (calls : List (Call K)) (turns : List (Turn K)) → sheet.words ≡ n → Begins worth ranges n first start → Noted calls turns turns 0 (Open sheet) start
+  none_noted sheet calls turns e b = record { calls_are = refl; turns_are = refl; going = record { words = e; ranking = sym b.no_ranking; rest = same_all n start; is = rw e b.holds; keeps = b.keeps } }
+
+-- before the calls the memory was made ready
+pub ran_from : {K : Type 0} (worth : K → Worth) (ranges : List Range) (n m : ℕ) (first : Run K) (calls : List (Call K)) (before start memory : MemoryParts K) (turns turns' : List (Turn K)) → m ≡ n → SameRest n before start → Ran worth ranges m first calls start memory turns turns' → Ran worth ranges n first calls before memory turns turns'
+ran_from worth ranges n m first calls before start memory turns turns' e rest at_m =
+    let r = subst (λ (k : ℕ). Ran worth ranges k first calls start memory turns turns') e at_m in
+    record { noted = r.noted; keeps = r.keeps; arcs = r.arcs; rest = same_more n before start memory rest r.rest; turns_beyond = r.turns_beyond }
 
 -- ---- what an opening answered
 
@@ -135,6 +131,12 @@ was_refused T (Some d) e unchanged done a = let z = a.0 in (let y : d ≡ e = cc
 pub long_enough : (n : ℕ) (l : Lengths) → open_check n l ≡ None → too_short n l ≡ false
 long_enough n l none = last_passes (too_short n l) ShortMemory (passes (eqb n 0 || ltb 40 n) WordCount (refuse_if (too_short n l) ShortMemory) none).1
 
--- the check of a run, where there are turns enough
-pub check_on : (n : ℕ) (l : Lengths) (calls turns : ℕ) → calls ≤ turns → run_check n l calls turns ≡ open_check n l
-check_on n l calls turns le = rw (le-ltb turns calls le) refl
+-- ---- the check of the turns, where they are enough
+
+pub enough_turns : (o : Option Refusal) (u : Unit {0}) → Ok u ≡ checked o → o ≡ None
+enough_turns None u e = refl
+enough_turns (Some d) u e = absurd cc
+
+-- then the check of a run is that of an opening
+pub check_on : (n : ℕ) (l : Lengths) (calls turns : ℕ) → turns_check calls turns ≡ None → run_check n l calls turns ≡ open_check n l
+check_on n l calls turns none = rw none refl

@@ -1,7 +1,9 @@
 -- Two runs side by side. The calls, with the worths of their weights, settle the answers.
-use Rattle.std.specs.Prelude.{◌≡◌, ℕ, Bool, true, List, [], ◌∷◌, ◌++◌, length, take}
-use Rattle.ranking.specs.Memory.{Memory}
+use Rattle.std.specs.Prelude.{◌≡◌, ℕ, ◌+◌, Bool, true, List, [], ◌∷◌, ◌++◌, reverse, length, take}
+use Rattle.file.specs.Formats.{Format}
+use Rattle.ranking.specs.Memory.{MemoryParts}
 use Rattle.ranking.specs.Order.{SameWorths}
+use Rattle.run.specs.Files.{file_turns, file_puts}
 use Rattle.run.specs.Law.{Run, standing, taken, ranks, Keeps}
 use Rattle.run.specs.Steps.{Ran}
 use Rattle.run.specs.declared.Answer.TheVariants.{Done, Handed, Refused, Misplaced}
@@ -61,10 +63,25 @@ module _ {K : Type 0} (worth : K → Worth) where
       (n : ℕ) (run other later later' : Run K) → Keeps worth ranges n (later ++ run) → Keeps worth ranges n (later' ++ other) → CameAlike n run other → CallsAlike later later' →
       AnswersAlike later later' × CameAlike n (later ++ run) (later' ++ other)
 
-  -- any two runs of the same calls on fresh sheets of the same number of words are answered alike, whatever memory they are lent. (`Ran` is
-  -- a run that was not refused as a whole: that is settled by words and lengths alone, `run_check`.)
+  -- the same calls behind turns that have come to the same are answered alike, whatever memory the two runs are lent. (`Ran` is a run that was
+  -- not refused as a whole: that is settled by words, lengths and the file, `run_check` and `read_answer`.)
   abbrev pub RunsAlike : List Range → Type 0
   RunsAlike ranges =
-      (n : ℕ) (calls : List (Call K)) (memory memory' other other' : Memory K) (turns turns' notes notes' : List (Turn K)) →
-      Ran worth ranges n calls memory memory' turns turns' → Ran worth ranges n calls other other' notes notes' →
+      (n : ℕ) (first first' : Run K) (calls : List (Call K)) (memory memory' other other' : MemoryParts K) (turns turns' notes notes' : List (Turn K)) → CameAlike n first first' →
+      Ran worth ranges n first calls memory memory' turns turns' → Ran worth ranges n first' calls other other' notes notes' →
       AnswersAlike (take (length calls) turns') (take (length calls) notes')
+
+  -- so are any two runs of the same calls on fresh sheets of the same number of words
+  abbrev pub FreshAlike : List Range → Type 0
+  FreshAlike ranges =
+      (n : ℕ) (calls : List (Call K)) (memory memory' other other' : MemoryParts K) (turns turns' notes notes' : List (Turn K)) →
+      Ran worth ranges n [] calls memory memory' turns turns' → Ran worth ranges n [] calls other other' notes notes' →
+      AnswersAlike (take (length calls) turns') (take (length calls) notes')
+
+  -- and a run on the sheet of a file is answered as one by hand, on a fresh sheet, whose first calls are the file's puts: these are done, and
+  -- the others answered alike
+  abbrev pub ByHandAlike : List Range → Type 0
+  ByHandAlike ranges =
+      (n : ℕ) (f : Format K) (file : List ℕ) (count : ℕ) (calls : List (Call K)) (memory memory' other other' : MemoryParts K) (turns turns' notes notes' : List (Turn K)) →
+      Ran worth ranges n (file_turns f file count) calls memory memory' turns turns' → Ran worth ranges n [] (file_puts f file count ++ calls) other other' notes notes' →
+      AnswersAlike (reverse (file_turns f file count) ++ take (length calls) turns') (take (count + length calls) notes')

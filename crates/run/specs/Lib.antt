@@ -1,4 +1,5 @@
 pub mod Law
 pub mod Loans
 pub mod Steps
+pub mod Files
 pub mod Alike

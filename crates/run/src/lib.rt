@@ -1,29 +1,32 @@
-// Runs of calls: a list of calls on a fresh sheet, each with its answer.
+// Runs of calls: a list of calls on a fresh sheet or on the sheet of a file, each with its answer.
 #![tactic(auto)]
 
-ghost use Rattle.std.specs.Prelude.{◌≡◌, List, length, IfOk};
-ghost use Rattle.ranking.specs.Calls.{lengths_of, Took};
-ghost use Rattle.run.specs.Alike.{CallsSettle, RunsAlike};
-ghost use Rattle.run.specs.Law.{RanksTruly};
+ghost use Rattle.std.specs.Prelude.{◌≡◌, ◌≤◌, false, List, [], length, IfOk};
+ghost use Rattle.file.specs.Reading.{HeldAfter, ReadAs};
+ghost use Rattle.ranking.specs.Calls.{part_lengths, Took};
+ghost use Rattle.run.specs.Alike.{ByHandAlike, CallsSettle, FreshAlike, RunsAlike};
+ghost use Rattle.run.specs.Files.{FileStands, RanFile};
+ghost use Rattle.run.specs.Law.{RanksTruly, Run};
 ghost use Rattle.run.specs.Loans.{lists, lists_of, SameLoans};
-ghost use Rattle.run.specs.Steps.{Ran, Stepped, run_check, told_by};
+ghost use Rattle.run.specs.Steps.{Begins, Ran, Stepped, run_check, told_by, turns_check};
 ghost use Rattle.run.specs.declared.Call.TheVariants.{Take};
 ghost use Rattle.run.specs.declared.State.TheVariants.{Open, Ranked};
 ghost use Rattle.search.specs.declared.family.Node.{Node};
-ghost use Rattle.sheet.specs.Arcs.{no_arcs};
-ghost use Rattle.sheet.specs.Calls.{Answered, Holds, open_check};
+ghost use Rattle.sheet.specs.Arcs.{HoldsArcs, no_arcs};
+ghost use Rattle.sheet.specs.Calls.{Answered, checked, Holds, open_check, too_short};
 ghost use Rattle.sheet.specs.declared.Candidate.{Candidate};
 ghost use Rattle.weight.specs.Layers.{Root};
 
+use file::{FileFault, Recorded};
 use ranking::{Ranking, Taken};
 use refusal::Refusal;
 use search::{Node, Working};
 use sheet::{Candidate, Sheet, Spare};
 use weight::{Opens, Root};
 
-// The memory that a run works in, lent together. Flat, since a caller learns nothing of slices that it lent in a struct in a struct.
+/// The memory that a run works in, lent together. Flat, since a caller learns nothing of slices that it lent in a struct in a struct.
 #[derive(Drop)]
-pub struct Memory<'a, K> {
+pub struct LentMemory<'a, K> {
     pub weights: &'a mut [K],
     pub sets: &'a mut [u64],
     pub candidates: &'a mut [Candidate<K>],
@@ -32,7 +35,7 @@ pub struct Memory<'a, K> {
     pub potentials: &'a mut [Root<K>],
 }
 
-// A call on a sheet or on its ranking. A take says how many bytes of space it is given.
+/// A call on a sheet or on its ranking. A take says how many bytes of space it is given.
 #[derive(Clone, Copy, PartialEq, Eq, Debug)]
 pub enum Call<K> {
     Put(usize, usize, K),
@@ -42,20 +45,20 @@ pub enum Call<K> {
     End,
 }
 
-// What a call answered.
+/// What a call answered.
 #[derive(Clone, Copy, PartialEq, Eq, Debug)]
 pub enum Answer<K> {
-    // a put, strike, begin or end was done
+    /// a put, strike, begin or end was done
     Done,
-    // a take handed out a tree: its heads with zeros behind them, its weight and its number
+    /// a take handed out a tree: its heads with zeros behind them, its weight and its number
     Handed([u8; 40], Taken<K>),
-    // the call was refused
+    /// the call was refused
     Refused(Refusal),
-    // a put, strike or begin while a ranking stands, or a take or end while none does: nothing was called
+    /// a put, strike or begin while a ranking stands, or a take or end while none does: nothing was called
     Misplaced,
 }
 
-// A call with its answer.
+/// A call with its answer.
 #[derive(Clone, Copy, PartialEq, Eq, Debug)]
 pub struct Turn<K> {
     pub call: Call<K>,
@@ -90,7 +93,7 @@ fn take_in<K: Opens + Copy>(
     ranking::take(ranking, weights, sets, candidates, &mut working, space)
 }
 
-// Takes a tree into so many bytes of space. The parts are lent one by one, since a part behind a `&mut Memory` is not lent as a
+// Takes a tree into so many bytes of space. The parts are lent one by one, since a part behind a `&mut LentMemory` is not lent as a
 // `&` beside others.
 fn take_into<K: Opens + Copy>(
     ranking: &mut Ranking<K>,
@@ -163,7 +166,7 @@ fn on_sheet<K: Opens + Copy>(
 fn on_ranking<K: Opens + Copy>(
     mut ranking: Ranking<K>,
     call: Call<K>,
-    memory: &mut Memory<'_, K>,
+    memory: &mut LentMemory<'_, K>,
 ) -> (State<K>, Answer<K>)
     ensures stepped { Stepped K.Kind.worth K.Kind.ranges (Ranked ranking) result.0 (lists_of memory.old) (lists_of memory.new) call result.1 }
     ensures parts { SameLoans memory.old memory.new }
@@ -194,7 +197,7 @@ fn on_ranking<K: Opens + Copy>(
 fn step<K: Opens + Copy>(
     state: State<K>,
     call: Call<K>,
-    memory: &mut Memory<'_, K>,
+    memory: &mut LentMemory<'_, K>,
 ) -> (State<K>, Answer<K>)
     ensures stepped { Stepped K.Kind.worth K.Kind.ranges state result.0 (lists_of memory.old) (lists_of memory.new) call result.1 }
     ensures parts { SameLoans memory.old memory.new }
@@ -215,7 +218,8 @@ fn opened<K: Opens + Copy>(
     merges: &mut [Node<K>],
     potentials: &mut [Root<K>],
 ) -> Result<Sheet<K>, Refusal>
-    ensures opened { Answered (open_check words (lengths_of (lists weights.old sets.old candidates.old nodes.old merges.old potentials.old))) result (sets.new ≡ sets.old) (IfOk result (λ s. s.words ≡ words) × Holds words no_arcs weights.old weights.new sets.old sets.new) }
+    ensures opened { Answered (open_check words (part_lengths (lists weights.old sets.old candidates.old nodes.old merges.old potentials.old))) result (sets.new ≡ sets.old) (IfOk result (λ s. s.words ≡ words) × Holds words no_arcs weights.old weights.new sets.old sets.new) }
+    ensures law { IfOk result (λ s. HoldsArcs K.Kind.worth K.Kind.ranges s.words weights.new sets.new no_arcs) }
     ensures weights { weights.new ≡ weights.old }
     ensures candidates { candidates.new ≡ candidates.old }
     ensures nodes { nodes.new ≡ nodes.old }
@@ -231,28 +235,28 @@ fn opened<K: Opens + Copy>(
     sheet::open(words, weights, sets, spare)
 }
 
-// Opens a sheet of so many words, makes the calls in their order, and notes each with its answer.
-pub fn run<K: Opens + Copy>(
-    words: usize,
-    calls: &[Call<K>],
-    memory: &mut Memory<'_, K>,
-    turns: &mut [Turn<K>],
-) -> Result<(), Refusal>
-    ensures ran { Answered (run_check words (lengths_of (lists_of memory.old)) (length calls.now) (length turns.old)) result ((lists_of memory.new ≡ lists_of memory.old) × (turns.new ≡ turns.old)) (Ran K.Kind.worth K.Kind.ranges words calls.now (lists_of memory.old) (lists_of memory.new) turns.old turns.new) }
-    ensures parts { SameLoans memory.old memory.new }
+// Whether there is a turn for each call.
+fn turns_for<K>(calls: &[Call<K>], turns: &[Turn<K>]) -> Result<(), Refusal>
+    ensures { result ≡ checked (turns_check (length calls.now) (length turns.now)) }
 {
     if turns.len() < calls.len() {
         return Err(Refusal::ShortSpace);
     }
-    let sheet = opened(
-        words,
-        memory.weights,
-        memory.sets,
-        memory.candidates,
-        memory.nodes,
-        memory.merges,
-        memory.potentials,
-    )?;
+    Ok(())
+}
+
+// Makes the calls in their order, the first on an open sheet, and notes each with its answer.
+fn make_calls<K: Opens + Copy>(
+    sheet: Sheet<K>,
+    calls: &[Call<K>],
+    memory: &mut LentMemory<'_, K>,
+    turns: &mut [Turn<K>],
+)
+    requires turns { length calls.now ≤ length turns.old }
+    requires memory { too_short sheet.words (part_lengths (lists_of memory.old)) ≡ false }
+    ensures ran { (first : Run K) → Begins K.Kind.worth K.Kind.ranges sheet.words first (lists_of memory.old) → Ran K.Kind.worth K.Kind.ranges sheet.words first calls.now (lists_of memory.old) (lists_of memory.new) turns.old turns.new }
+    ensures parts { SameLoans memory.old memory.new }
+{
     let mut state = State::Open(sheet);
     // by the place: of what is written over `turns.iter_mut()` nothing is known after the loop
     for (i, call) in calls.iter().enumerate() {
@@ -264,14 +268,92 @@ pub fn run<K: Opens + Copy>(
         };
     }
     drop(state);
+}
+
+/// Opens a sheet of so many words, makes the calls in their order, and notes each with its answer.
+pub fn run<K: Opens + Copy>(
+    words: usize,
+    calls: &[Call<K>],
+    memory: &mut LentMemory<'_, K>,
+    turns: &mut [Turn<K>],
+) -> Result<(), Refusal>
+    ensures ran { Answered (run_check words (part_lengths (lists_of memory.old)) (length calls.now) (length turns.old)) result ((lists_of memory.new ≡ lists_of memory.old) × (turns.new ≡ turns.old)) (Ran K.Kind.worth K.Kind.ranges words [] calls.now (lists_of memory.old) (lists_of memory.new) turns.old turns.new) }
+    ensures parts { SameLoans memory.old memory.new }
+{
+    turns_for(calls, turns)?;
+    let sheet = opened(
+        words,
+        memory.weights,
+        memory.sets,
+        memory.candidates,
+        memory.nodes,
+        memory.merges,
+        memory.potentials,
+    )?;
+    make_calls(sheet, calls, memory, turns);
     Ok(())
 }
 
-// What follows from the law, for every kind: a ranking hands out no tree twice, skips none, and its weights never rise; the same calls
-// are answered alike after runs that have come to the same arcs, whatever calls those were; and so any two runs of the same calls
-// are answered alike, whatever memory they are lent and whatever it holds, if only it is long enough.
+// Reads a file; of the memory only weights and sets are written.
+fn read_in<K: Recorded + Copy>(
+    file: &[u8],
+    weights: &mut [K],
+    sets: &mut [u64],
+    candidates: &mut [Candidate<K>],
+    nodes: &mut [Node<K>],
+    merges: &mut [Node<K>],
+    potentials: &mut [Root<K>],
+) -> Result<Sheet<K>, FileFault>
+    ensures read { ReadAs K.format (part_lengths (lists weights.old sets.old candidates.old nodes.old merges.old potentials.old)) file.now result weights.old weights.new sets.old sets.new }
+    ensures law { HeldAfter K.format K.Kind.worth K.Kind.ranges file.now result weights.new sets.new }
+    ensures candidates { candidates.new ≡ candidates.old }
+    ensures nodes { nodes.new ≡ nodes.old }
+    ensures merges { merges.new ≡ merges.old }
+    ensures potentials { potentials.new ≡ potentials.old }
+{
+    let spare = Spare {
+        candidates,
+        nodes,
+        merges,
+        potentials,
+    };
+    file::read(file, weights, sets, spare)
+}
+
+/// Reads a file, makes the calls on its sheet in their order, and notes each with its answer. Refused with 14 at place 0 where the turns
+/// are fewer than the calls, else as `file::read` is; a file that is refused leaves the turns as they were.
+pub fn run_file<K: Recorded + Copy>(
+    file: &[u8],
+    calls: &[Call<K>],
+    memory: &mut LentMemory<'_, K>,
+    turns: &mut [Turn<K>],
+) -> Result<(), FileFault>
+    ensures ran { RanFile K.format K.Kind.worth K.Kind.ranges file.now calls.now (lists_of memory.old) (lists_of memory.new) turns.old turns.new result }
+    ensures parts { SameLoans memory.old memory.new }
+{
+    turns_for(calls, turns)?;
+    let sheet = read_in(
+        file,
+        memory.weights,
+        memory.sets,
+        memory.candidates,
+        memory.nodes,
+        memory.merges,
+        memory.potentials,
+    )?;
+    make_calls(sheet, calls, memory, turns);
+    Ok(())
+}
+
+/// What follows from the law, for every kind: a ranking hands out no tree twice, skips none, and its weights never rise; the same calls
+/// are answered alike after runs that have come to the same arcs, whatever calls those were; and so any two runs of the same calls
+/// are answered alike, whatever memory they are lent and whatever it holds, if only it is long enough. The puts of a file leave the arcs
+/// that its reader leaves, and a run on its sheet is answered as one by hand that puts the same first.
 pub fn laws<K: Opens>()
     ensures truly { RanksTruly K.Kind.worth K.Kind.ranges }
     ensures settled { CallsSettle K.Kind.worth K.Kind.ranges }
     ensures alike { RunsAlike K.Kind.worth K.Kind.ranges }
+    ensures fresh { FreshAlike K.Kind.worth K.Kind.ranges }
+    ensures file { FileStands K }
+    ensures by_hand { ByHandAlike K.Kind.worth K.Kind.ranges }
 {}

@@ -10,7 +10,7 @@ use Rattle.tree.specs.Chains.{Word, head_of}
 use Rattle.arborescence.specs.Heads.{TreeOver}
 use Rattle.word_set.specs.Bits.{in_set}
 use Rattle.search.specs.Arcs.{allowed, Entries}
-use Rattle.search.specs.Answer.{Told, Searched, barring}
+use Rattle.search.specs.Answer.{TreeTold, Searched, barring}
 
 over_same : (n : ℕ) (a b : ℕ → ℕ → Bool) → ((h d : ℕ) → Word n d → a h d ≡ b h d) → (t : List ℕ) → TreeOver n a t → TreeOver n b t
 over_same n a b same t over = record { shape = over.shape; standing = λ w v. sym (same (head_of t w) w v) ∙ over.standing w v }
@@ -18,7 +18,7 @@ over_same n a b same t over = record { shape = over.shape; standing = λ w v. sy
 entries_same : (n : ℕ) (a b : ℕ → ℕ → Bool) → ((h d : ℕ) → Word n d → a h d ≡ b h d) → (ranges : List Range) (worth : ℕ → ℕ → Worth) → Entries n b ranges worth → Entries n a ranges worth
 entries_same n a b same ranges worth entries h d v le t = entries h d v le (sym (same h d v) ∙ t)
 
-told_same : {K : Type 0} (f : K → Worth) (n : ℕ) (a b : ℕ → ℕ → Bool) (worth : ℕ → ℕ → Worth) (heads : List ℕ) (o : Option K) → ((h d : ℕ) → Word n d → a h d ≡ b h d) → Told f n a worth heads o → Told f n b worth heads o
+told_same : {K : Type 0} (f : K → Worth) (n : ℕ) (a b : ℕ → ℕ → Bool) (worth : ℕ → ℕ → Worth) (heads : List ℕ) (o : Option K) → ((h d : ℕ) → Word n d → a h d ≡ b h d) → TreeTold f n a worth heads o → TreeTold f n b worth heads o
 told_same f n a b worth heads None same none = λ t over. none t (over_same n b a (λ h d v. sym (same h d v)) t over)
 told_same f n a b worth heads (Some w) same found =
     record { tree = over_same n a b same heads found.tree; weighs = found.weighs; none_heavier = λ other over. found.none_heavier other (over_same n b a (λ h d v. sym (same h d v)) other over) }

@@ -7,7 +7,7 @@ use Rattle.word_set.specs.Bits.{in_set}
 use Rattle.word_set.proofs.Sets.{in_set_empty, lowest_in}
 use Rattle.search.specs.Family.{Group, Valid}
 use Rattle.search.specs.Choice.{opened}
-use Rattle.search.specs.Opening.{Opened, Lined, Ended, Opens}
+use Rattle.search.specs.Opening.{Opened, Lined, Ended, OpensToBest}
 use Rattle.search.proofs.Stages.{valid_begun, valid_laid}
 use Rattle.search.proofs.Openings.{goal_of, open_start, open_done, open_own, open_end}
 
@@ -133,7 +133,7 @@ module _ (p n : ℕ) (base : ℕ → Group) (all : List Group) where
       word v (inl t) = left.words v t
       word v (inr t) = subst (Word n) (sym (eqb-true v m.to (sym (one v) ∙ t))) (left.lined 0 m (omega arith)).0
 
-  pub left_end : (done : ℕ) (head : ℕ → ℕ) → Left p n base all [] done head → Opens p n base all head
+  pub left_end : (done : ℕ) (head : ℕ → ℕ) → Left p n base all [] done head → OpensToBest p n base all head
   left_end done head left stands worth ended = open_end n stands worth (zeros (suc p)) ended.sound.whole base all ended.valid done head (left.opened stands worth ended).1
 
   pub left_heads : (done : ℕ) (head : ℕ → ℕ) → Left p n base all [] done head → (w : ℕ) → Word n w → head w ≡ opened [] (λ v. (base v).from) all w

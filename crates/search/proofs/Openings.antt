@@ -4,7 +4,7 @@ use Rattle.std.proofs.lemmas.Bool.{cases_Bool, cases_eq, both_ways, false_from_n
 use Rattle.weight.specs.Worth.{Worth, plus, AtMost}
 use Rattle.tree.specs.Chains.{Word, up, Reaches}
 use Rattle.arborescence.specs.Sum.{sum_if}
-use Rattle.arborescence.specs.Search.{Tree, tree_worth, Sets, Leader, leads, Built, Union, Circle}
+use Rattle.arborescence.specs.Search.{Tree, worth_of_heads, Sets, Leader, leads, Built, Union, Circle}
 use Rattle.weight.proofs.Worths.{at_most_trans}
 use Rattle.arborescence.proofs.Sums.{at_most_eq, sum_le, sum_same}
 use Rattle.arborescence.proofs.Merged as merges
@@ -144,7 +144,7 @@ module _ (n : ℕ) (stands : ℕ → ℕ → Bool) (worth : ℕ → ℕ → Wort
             let r = more (tree.in_line w v) e in
             (suc r.0, ap (up h' r.0) (same w v) ∙ r.1)
 
-    pub tree_same : Tree n stands h' × (tree_worth worth h' n ≡ tree_worth worth h n)
+    pub tree_same : Tree n stands h' × (worth_of_heads worth h' n ≡ worth_of_heads worth h n)
     tree_same =
         (record { in_line = λ w v. rw (same w v) (tree.in_line w v); reaches = λ w v. let r = tree.reaches w v in chain r.0 w v.1 r.1; standing = λ w v. rw (same w v) (tree.standing w v) }, sum_same (λ w. true) (λ w. true) (λ w. worth (h' w) w) (λ w. worth (h w) w) n (λ w v. refl) (λ w v t. ap (λ (x : ℕ). worth x w) (same w v)))
 
@@ -155,7 +155,7 @@ module _ (n : ℕ) (stands : ℕ → ℕ → Bool) (worth : ℕ → ℕ → Wort
       let e = entered n stands worth z nought base ms valid in
       (is.0, λ other tree. at_most_trans _ _ _ (above.end n stands worth (rep_of ms) (add_of n z base ms) (best_of base ms) g.sets (λ ℓ l. (e ℓ l).covers) g.above other tree) (subst (AtMost (goal_of n base ms)) (sym is.1) t.1))
     where
-      t : Tree n stands o.built.from × AtMost (goal_of n base ms) (tree_worth worth o.built.from n)
+      t : Tree n stands o.built.from × AtMost (goal_of n base ms) (worth_of_heads worth o.built.from n)
       t = bottom_from n stands worth (goal_of n base ms) (record { from = o.built.from; to = o.built.to; arc = o.built.arc; arrives = o.built.arrives; enough = rw (id_arcs n stands worth z nought o.built.from o.built.to o.built.arc) at o.built.enough })
 
       same : (w : ℕ) → Word n w → head w ≡ o.built.from w
@@ -165,5 +165,5 @@ module _ (n : ℕ) (stands : ℕ → ℕ → Bool) (worth : ℕ → ℕ → Wort
           by (inl a) = o.rest w v (a.none w v refl) ∙ sym a.own_from
           by (inr a) = let q : o.built.to w ≡ w = (o.built.arc w (record { word = v; own = refl })).inside in ap head (sym q) ∙ a.is_head
 
-      is : Tree n stands head × (tree_worth worth head n ≡ tree_worth worth o.built.from n)
+      is : Tree n stands head × (worth_of_heads worth head n ≡ worth_of_heads worth o.built.from n)
       is = tree_same o.built.from head same t.0

@@ -18,18 +18,18 @@ abbrev pub weight_at : {K : Type 0} → (K → Worth) → ℕ → List K → ℕ
 weight_at f n weights h d = slice_index_or (map f weights) ((d - 1) * (n + 1) + h) []
 
 -- the same with the place of the root layer in front
-abbrev pub arc_worth : {K : Type 0} → (K → Worth) → ℕ → List K → ℕ → ℕ → Worth
-arc_worth f n weights = rooted (weight_at f n weights)
+abbrev pub layered_worth : {K : Type 0} → (K → Worth) → ℕ → List K → ℕ → ℕ → Worth
+layered_worth f n weights = rooted (weight_at f n weights)
 
 -- the same of the graph that a search looks at
 abbrev pub stands_in : {K : Type 0} → Graph K → ℕ → ℕ → Bool
 stands_in graph = allowed graph.sets.now graph.held.now
 
-abbrev pub weight_in : {K : Type 0} → (K → Worth) → Graph K → ℕ → ℕ → Worth
-weight_in f graph = weight_at f graph.words graph.weights.now
+abbrev pub weight_in_graph : {K : Type 0} → (K → Worth) → Graph K → ℕ → ℕ → Worth
+weight_in_graph f graph = weight_at f graph.words graph.weights.now
 
 abbrev pub arc_in : {K : Type 0} → (K → Worth) → Graph K → ℕ → ℕ → Worth
-arc_in f graph = arc_worth f graph.words graph.weights.now
+arc_in f graph = layered_worth f graph.words graph.weights.now
 
 -- the set's words are on the line, or the root
 abbrev pub InLine : (n set : ℕ) → Type 0

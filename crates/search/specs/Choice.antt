@@ -7,7 +7,7 @@ use Rattle.weight.specs.Range.{Range}
 use Rattle.arborescence.specs.Heads.{rooted}
 use Rattle.tree.specs.Chains.{Word, head_of, Reaches}
 use Rattle.word_set.specs.Bits.{in_set}
-use Rattle.search.specs.Answer.{Told}
+use Rattle.search.specs.Answer.{TreeTold}
 use Rattle.search.specs.Arcs.{Sound, Entries}
 use Rattle.search.specs.Family.{Group, from_of, Valid}
 use Rattle.search.specs.Opening.{Ended}
@@ -55,7 +55,7 @@ SameTree f _ _ _ _ = ⊥
 abbrev pub SearchesAlike : {K : Type 0} → (K → Worth) → List Range → Type 0
 SearchesAlike {K} f ranges =
     (n : ℕ) (stands stands' : ℕ → ℕ → Bool) (worth worth' : ℕ → ℕ → Worth) → SameArcs n stands stands' worth worth' → Entries n stands ranges worth →
-    (heads others : List ℕ) (a b : Option K) → Told f n stands worth heads a → Settles ranges n stands worth heads (Ok a) → Told f n stands' worth' others b → Settles ranges n stands' worth' others (Ok b) →
+    (heads others : List ℕ) (a b : Option K) → TreeTold f n stands worth heads a → Settles ranges n stands worth heads (Ok a) → TreeTold f n stands' worth' others b → Settles ranges n stands' worth' others (Ok b) →
     SameTree f heads a others b
 
 -- at their heart: they come to the same heads

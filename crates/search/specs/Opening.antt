@@ -2,7 +2,7 @@
 use Rattle.std.specs.Prelude.{◌≡◌, ℕ, suc, ◌≤◌, Bool, true, false, ◌⊎◌, List, All}
 use Rattle.weight.specs.Worth.{Worth, AtMost, zeros}
 use Rattle.tree.specs.Chains.{Word, Reaches}
-use Rattle.arborescence.specs.Search.{Leader, Built, Tree, tree_worth}
+use Rattle.arborescence.specs.Search.{Leader, Built, Tree, worth_of_heads}
 use Rattle.word_set.specs.Bits.{in_set}
 use Rattle.search.specs.Arcs.{Sound}
 use Rattle.search.specs.Family.{Group, rep_of, from_of, add_of, Valid}
@@ -26,7 +26,7 @@ pub record Opened (n : ℕ) (stands : ℕ → ℕ → Bool) (worth : ℕ → ℕ
 
 -- a tree, and none is worth more
 abbrev pub BestOfAll : (n : ℕ) (stands : ℕ → ℕ → Bool) (worth : ℕ → ℕ → Worth) (head : ℕ → ℕ) → Type 0
-BestOfAll n stands worth head = Tree n stands head × ((other : ℕ → ℕ) → Tree n stands other → AtMost (tree_worth worth other n) (tree_worth worth head n))
+BestOfAll n stands worth head = Tree n stands head × ((other : ℕ → ℕ) → Tree n stands other → AtMost (worth_of_heads worth other n) (worth_of_heads worth head n))
 
 -- ---- what the opening is given
 -- the arcs of the words and of the sets lie on the line
@@ -41,5 +41,5 @@ pub record Ended (p n : ℕ) (stands : ℕ → ℕ → Bool) (worth : ℕ → �
   pub reach : (w : ℕ) → Word n w → Reaches (from_of base ms) w
 
 -- whatever arcs it was a search of, the heads are a heaviest arborescence over them
-abbrev pub Opens : (p n : ℕ) (base : ℕ → Group) (ms : List Group) (head : ℕ → ℕ) → Type 0
-Opens p n base ms head = (stands : ℕ → ℕ → Bool) (worth : ℕ → ℕ → Worth) → Ended p n stands worth base ms → BestOfAll n stands worth head
+abbrev pub OpensToBest : (p n : ℕ) (base : ℕ → Group) (ms : List Group) (head : ℕ → ℕ) → Type 0
+OpensToBest p n base ms head = (stands : ℕ → ℕ → Bool) (worth : ℕ → ℕ → Worth) → Ended p n stands worth base ms → BestOfAll n stands worth head

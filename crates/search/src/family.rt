@@ -5,7 +5,7 @@ use crate::arcs::Entering;
 use weight::{Kind, Root};
 use word_set::{either, holds, only};
 
-// A set of words, with the arc by which it is best entered.
+/// A set of words, with the arc by which it is best entered.
 #[derive(Clone, Copy)]
 pub struct Node<K> {
     pub(crate) members: u64,
@@ -17,7 +17,7 @@ impl<K: Kind> Node<K> {
     ghost use Rattle.search.specs.State.{view};
     ghost use Rattle.weight.specs.Layers.{root_place};
 
-    // A record to fill the working space with.
+    /// A record to fill the working space with.
     pub fn new(weight: K) -> Node<K>
         ensures { view K.Kind.worth result ≡ record { members = 0; from = 0; to = 0; value = root_place 0 ∷ K.Kind.worth weight } }
     {
@@ -136,9 +136,11 @@ impl<K: Kind + Copy> Family<'_, K> {
     {
         let mut sum: Root<K> = <Root<_> as Kind>::nothing();
         for word in 1..self.words + 1 {
-            let node = self.top(word);
-            if node.arc.to == word && holds(members, word) {
-                sum = sum.sum(&node.arc.value);
+            if holds(members, word) {
+                let node = self.top(word);
+                if node.arc.to == word {
+                    sum = sum.sum(&node.arc.value);
+                }
             }
         }
         sum

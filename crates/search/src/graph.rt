@@ -19,8 +19,8 @@ pub(crate) struct Graph<'a, K> {
 
 impl<K: Kind + Copy> Graph<'_, K> {
     ghost use Rattle.std.specs.Prelude.{◌≡◌, ℕ, suc, ◌^◌, true, ◌&&◌, IfSome, nat_le};
-    ghost use Rattle.arborescence.specs.Search.{tree_worth};
-    ghost use Rattle.search.specs.Arcs.{InLine, stands_in, weight_in, arc_in, BestHead, better_head, EntriesInto, AllEntries};
+    ghost use Rattle.arborescence.specs.Search.{worth_of_heads};
+    ghost use Rattle.search.specs.Arcs.{InLine, stands_in, weight_in_graph, arc_in, BestHead, better_head, EntriesInto, AllEntries};
     ghost use Rattle.tree.specs.Chains.{Word, head_of};
     ghost use Rattle.weight.specs.Layers.{root_worth};
     ghost use Rattle.weight.specs.Range.{entry_in};
@@ -43,7 +43,7 @@ impl<K: Kind + Copy> Graph<'_, K> {
     pub(crate) fn weight(&self, from: usize, to: usize) -> K
         requires to { Word self.now.words to }
         requires from { from ≤ self.now.words }
-        ensures { K.Kind.worth result ≡ weight_in K.Kind.worth self.now from to }
+        ensures { K.Kind.worth result ≡ weight_in_graph K.Kind.worth self.now from to }
     {
         self.weights[(to - 1) * (self.words + 1) + from]
     }
@@ -62,7 +62,7 @@ impl<K: Kind + Copy> Graph<'_, K> {
         requires to { Word self.now.words to }
         requires from { from ≤ self.now.words }
         requires best { IfSome best (λ b. b ≤ self.now.words) }
-        ensures { result ≡ better_head (λ h. weight_in K.Kind.worth self.now h to) best from }
+        ensures { result ≡ better_head (λ h. weight_in_graph K.Kind.worth self.now h to) best from }
     {
         match best {
             None => from,
@@ -80,7 +80,7 @@ impl<K: Kind + Copy> Graph<'_, K> {
     fn best_word(&self, to: usize, heads: u64) -> Option<usize>
         requires to { Word self.now.words to }
         requires heads { InLine self.now.words heads }
-        ensures { BestHead (in_set heads) (λ h. weight_in K.Kind.worth self.now h to) result }
+        ensures { BestHead (in_set heads) (λ h. weight_in_graph K.Kind.worth self.now h to) result }
     {
         let mut best: Option<usize> = None;
         for from in words_of(heads) {
@@ -103,7 +103,7 @@ impl<K: Kind + Copy> Graph<'_, K> {
     fn entries_into(&self, to: usize, heads: u64) -> bool
         requires to { Word self.now.words to }
         requires heads { InLine self.now.words heads }
-        ensures { EntriesInto (in_set heads) (λ h. entry_in K.Kind.ranges (weight_in K.Kind.worth self.now h to)) result }
+        ensures { EntriesInto (in_set heads) (λ h. entry_in K.Kind.ranges (weight_in_graph K.Kind.worth self.now h to)) result }
     {
         for from in words_of(heads) {
             if !self.weight(from, to).entry() {
@@ -115,7 +115,7 @@ impl<K: Kind + Copy> Graph<'_, K> {
 
     // Whether the weights of all the arcs that are looked at are entries.
     pub(crate) fn all_entries(&self) -> bool
-        ensures { AllEntries self.now.words (stands_in self.now) K.Kind.ranges (weight_in K.Kind.worth self.now) result }
+        ensures { AllEntries self.now.words (stands_in self.now) K.Kind.ranges (weight_in_graph K.Kind.worth self.now) result }
     {
         // an `all` over a range that captures the graph is no plainer
         for to in 1..self.words + 1 {
@@ -131,7 +131,7 @@ impl<K: Kind + Copy> Graph<'_, K> {
         requires room { self.now.words ≤ length heads.now }
         requires in_line { (w : ℕ) → Word self.now.words w → head_of heads.now w ≤ self.now.words }
         requires small { (w : ℕ) → Word self.now.words w → Within (2 ^ 20) (arc_in K.Kind.worth self.now (head_of heads.now w) w) }
-        ensures { root_worth K.Kind.worth result ≡ plus (zeros (suc K.Kind.places)) (tree_worth (arc_in K.Kind.worth self.now) (head_of heads.now) self.now.words) }
+        ensures { root_worth K.Kind.worth result ≡ plus (zeros (suc K.Kind.places)) (worth_of_heads (arc_in K.Kind.worth self.now) (head_of heads.now) self.now.words) }
     {
         let mut sum: Root<K> = <Root<_> as Kind>::nothing();
         for (i, head) in heads[..self.words].iter().enumerate() {

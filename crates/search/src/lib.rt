@@ -3,10 +3,10 @@
 
 ghost use Rattle.std.specs.Prelude.{◌≡◌, ℕ, ◌+◌, ◌*◌, ◌<◌, ◌≤◌, take, length, MatchResult};
 ghost use Rattle.refusal.specs.declared.Refusal.{Refusal};
-ghost use Rattle.search.specs.Answer.{Line, FirstRefusal, Searched};
+ghost use Rattle.search.specs.Answer.{LineOfWords, FirstRefusal, Searched};
 ghost use Rattle.search.specs.Arcs.{allowed, weight_at};
 ghost use Rattle.search.specs.Choice.{FoundOnce, LimitedSets, SameSets, SearchesAlike, Settles};
-ghost use Rattle.search.specs.Space.{RoomIn, SameParts};
+ghost use Rattle.search.specs.Space.{KeptIn, RoomIn, SameParts, space_of};
 
 use crate::graph::Graph;
 use crate::whole::heaviest;
@@ -35,7 +35,7 @@ fn check<K>(
     working: &Working<'_, K>,
     heads: &[u8],
 ) -> Result<(), Refusal>
-    ensures { MatchResult result (λ _. Line words × RoomIn words sets.now weights.now working.now × (words ≤ length heads.now)) (FirstRefusal words (RoomIn words sets.now weights.now working.now) (length heads.now)) }
+    ensures { MatchResult result (λ _. LineOfWords words × RoomIn words sets.now weights.now working.now × (words ≤ length heads.now)) (FirstRefusal words (RoomIn words sets.now weights.now working.now) (length heads.now)) }
 {
     if words < 1 || words > 40 {
         return Err(Refusal::WordCount);
@@ -54,10 +54,10 @@ fn check<K>(
     Ok(())
 }
 
-// The heaviest single-root tree of the line over the arcs that stand. Bit h of `sets[d - 1]` is up where the arc from h to d stands,
-// and `weights[(d - 1) * (words + 1) + h]` is its weight. The first words are held, each at its head in `held`.
-// The heads are written to the front of `heads`, and the weight is returned; none where there is no such tree. Which of several heaviest
-// trees it is, the arcs settle (specs/Choice.antt).
+/// The heaviest single-root tree of the line over the arcs that stand. Bit h of `sets[d - 1]` is up where the arc from h to d stands,
+/// and `weights[(d - 1) * (words + 1) + h]` is its weight. The first words are held, each at its head in `held`.
+/// The heads are written to the front of `heads`, and the weight is returned; none where there is no such tree. Which of several heaviest
+/// trees it is, the arcs settle (specs/Choice.antt).
 pub fn best_tree<K: Kind + Copy>(
     words: usize,
     sets: &[u64],
@@ -69,6 +69,7 @@ pub fn best_tree<K: Kind + Copy>(
     ensures told { Searched K.Kind.worth K.Kind.ranges words (allowed sets.now held.now) (weight_at K.Kind.worth words weights.now) (RoomIn words sets.now weights.now working.old) heads.old heads.new result }
     ensures settled { Settles K.Kind.ranges words (allowed sets.now held.now) (weight_at K.Kind.worth words weights.now) (take words heads.new) result }
     ensures parts { SameParts working.old working.new }
+    ensures memory { KeptIn words (space_of working.old) (space_of working.new) result }
 {
     check(words, sets, weights, working, heads)?;
     let graph = Graph {
@@ -80,7 +81,12 @@ pub fn best_tree<K: Kind + Copy>(
     if !graph.all_entries() {
         return Ok(None);
     }
-    let Some(found) = heaviest(&graph, working.nodes, working.merges, working.potentials) else {
+    let Some(found) = heaviest(
+        &graph,
+        &mut working.nodes[..words + 1],
+        &mut working.merges[..words - 1],
+        &mut working.potentials[..words + 1],
+    ) else {
         return Ok(None);
     };
     let total = graph.tree_weight(&found);
@@ -91,8 +97,8 @@ pub fn best_tree<K: Kind + Copy>(
     Ok(Some(total.weight()))
 }
 
-// What a search chooses among equals the arcs alone settle, for every kind: two searches of the same arcs find the same heads, or both
-// none, and the sets that they merge are the same, one after the other.
+/// What a search chooses among equals the arcs alone settle, for every kind: two searches of the same arcs find the same heads, or both
+/// none, and the sets that they merge are the same, one after the other.
 pub fn laws<K: Kind>()
     ensures alike { SearchesAlike K.Kind.worth K.Kind.ranges }
     ensures once { FoundOnce }

@@ -1,7 +1,7 @@
 // The sets are opened, from the newest to the oldest, and give each word its head.
 ghost use Rattle.std.specs.Prelude.{◌≡◌, ℕ, ◌<◌, ◌≤◌, [], length};
 ghost use Rattle.search.specs.Choice.{opened};
-ghost use Rattle.search.specs.Opening.{Lined, Opens};
+ghost use Rattle.search.specs.Opening.{Lined, OpensToBest};
 ghost use Rattle.search.specs.State.{group_at, base_in, sets_in};
 ghost use Rattle.tree.specs.Chains.{Word, head_of};
 
@@ -37,7 +37,7 @@ fn first_heads<K: Kind + Copy>(words: usize, nodes: &[Node<K>], heads: &mut [u8]
 pub(crate) fn open<K: Kind + Copy>(family: &Family<'_, K>, heads: &mut [u8])
     requires room { family.now.words ≤ length heads.old }
     requires lined { Lined family.now.words (base_in K.Kind.worth family.now) (sets_in K.Kind.worth family.now) }
-    ensures best { Opens K.Kind.places family.now.words (base_in K.Kind.worth family.now) (sets_in K.Kind.worth family.now) (head_of heads.new) }
+    ensures best { OpensToBest K.Kind.places family.now.words (base_in K.Kind.worth family.now) (sets_in K.Kind.worth family.now) (head_of heads.new) }
     ensures order { (w : ℕ) → Word family.now.words w → head_of heads.new w ≡ opened [] (λ v. (base_in K.Kind.worth family.now v).from) (sets_in K.Kind.worth family.now) w }
 {
     first_heads(family.words, family.nodes, heads);

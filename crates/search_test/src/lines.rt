@@ -7,7 +7,7 @@ use tree::check_heads;
 use weight::{Kind, Root};
 use word_set::{either, holds, only};
 
-// A line: the sets of heads whose arcs stand, the weights of the arcs, and the working space of a search.
+/// A line: the sets of heads whose arcs stand, the weights of the arcs, and the working space of a search.
 #[derive(Drop)]
 pub struct Line<K> {
     pub words: u8,
@@ -19,7 +19,7 @@ pub struct Line<K> {
 }
 
 impl<K: Kind + Copy> Line<K> {
-    // A line with every arc absent, and working space for so many words.
+    /// A line with every arc absent, and working space for so many words.
     pub fn new(heap: Global, words: u8, room: u8) -> Result<Line<K>, AllocError> {
         let nothing = K::nothing();
         let room = usize::from(room);
@@ -38,7 +38,7 @@ impl<K: Kind + Copy> Line<K> {
         usize::from(before) * (usize::from(self.words) + 1) + usize::from(head)
     }
 
-    // Puts an arc.
+    /// Puts an arc.
     pub fn put(&mut self, head: u8, dependent: u8, weight: K) {
         let before = dependent.saturating_sub(1);
         let place = self.place(head, before);
@@ -50,7 +50,7 @@ impl<K: Kind + Copy> Line<K> {
         }
     }
 
-    // Draws for each arc of the line whether it stands, and with which weight.
+    /// Draws for each arc of the line whether it stands, and with which weight.
     pub fn draw<F: FnMut() -> Option<K>>(&mut self, mut weight: F)
         requires { F.IsAlwaysCallable weight }
     {
@@ -63,7 +63,7 @@ impl<K: Kind + Copy> Line<K> {
         }
     }
 
-    // The weight of a list of heads, or none where an arc is absent.
+    /// The weight of a list of heads, or none where an arc is absent.
     pub fn weigh(&self, heads: &[u8]) -> Option<K> {
         let mut arcs = (0..=255).zip(heads);
         arcs.try_fold(K::nothing(), |sum, (before, head)| {
@@ -73,7 +73,7 @@ impl<K: Kind + Copy> Line<K> {
         })
     }
 
-    // What the search answers, with the first words held and some heads of the next one barred.
+    /// What the search answers, with the first words held and some heads of the next one barred.
     pub fn search(
         &mut self,
         held: &[u8],
@@ -95,7 +95,7 @@ impl<K: Kind + Copy> Line<K> {
         }
     }
 
-    // The greatest weight of a single-root tree, by trying every list of heads.
+    /// The greatest weight of a single-root tree, by trying every list of heads.
     pub fn greatest(&self, held: &[u8], barred: u64) -> Option<K> {
         let trees = (0..lists(self.words)).filter_map(|number| {
             let heads = list(number, self.words);

@@ -2,7 +2,7 @@
 #![tactic(auto)]
 
 ghost use Rattle.std.specs.Prelude.{◌≡◌, ◌≤◌, length, replicate, is_some, IfOk, Some, None};
-ghost use Rattle.sheet.specs.Arcs.{arcs_in, no_arcs, with_arc};
+ghost use Rattle.sheet.specs.Arcs.{ArcChanged, arcs_in, HoldsArcs, no_arcs, with_arc};
 ghost use Rattle.sheet.specs.Candidates.{NoneLevel, outranking};
 ghost use Rattle.sheet.specs.Orders;
 ghost use Rattle.sheet.specs.Calls.{Answered, arc_check, checked, ends_check, Holds, memory_check, open_check, put_check, strike_check, too_short};
@@ -17,7 +17,7 @@ use std::marker::PhantomData;
 use weight::{Kind, Opens, Root};
 use word_set::{either, holds, only, without};
 
-// An open sheet of a kind of weight. It is a number of words; what stands on it lies in the memory that it was opened with.
+/// An open sheet of a kind of weight. It is a number of words; what stands on it lies in the memory that it was opened with.
 #[derive(Drop)]
 pub struct Sheet<K> {
     words: usize,
@@ -25,7 +25,7 @@ pub struct Sheet<K> {
     ghost line: { (1 ≤ words) × (words ≤ 40) },
 }
 
-// How long each part of the memory is.
+/// How long each part of the memory is.
 #[derive(Clone, Copy)]
 pub struct Lengths {
     pub weights: usize,
@@ -36,7 +36,7 @@ pub struct Lengths {
     pub potentials: usize,
 }
 
-// The parts of the memory that a sheet asks for and does not write: those of a ranking and of a search.
+/// The parts of the memory that a sheet asks for and does not write: those of a ranking and of a search.
 #[derive(Clone, Copy)]
 pub struct Spare<'a, K> {
     pub candidates: &'a [Candidate<K>],
@@ -46,7 +46,7 @@ pub struct Spare<'a, K> {
 }
 
 impl<K> Spare<'_, K> {
-    // How long all parts of the memory are, those that a sheet writes among them.
+    /// How long all parts of the memory are, those that a sheet writes among them.
     pub fn lengths(&self, weights: &[K], sets: &[u64]) -> Lengths
         ensures { result ≡ lengths_of weights.now sets.now self.now }
     {
@@ -62,14 +62,14 @@ impl<K> Spare<'_, K> {
 }
 
 impl<K> Sheet<K> {
-    // How many words the line has.
+    /// How many words the line has.
     pub fn words(&self) -> usize
         ensures { result ≡ self.now.words }
     {
         self.words
     }
 
-    // Whether some part of the memory is shorter than the sheet wants.
+    /// Whether some part of the memory is shorter than the sheet wants.
     pub fn too_short(&self, lengths: Lengths) -> bool
         ensures { result ≡ too_short self.now.words lengths }
     {
@@ -123,8 +123,8 @@ impl<K> Sheet<K> {
     }
 }
 
-// A tree that waits to be handed out: a heaviest of its cell. The cell holds the trees with the same heads before the word
-// `from`, and at that word a head that is not banned. The record is of fixed size, since a line has at most forty words.
+/// A tree that waits to be handed out: a heaviest of its cell. The cell holds the trees with the same heads before the word
+/// `from`, and at that word a head that is not banned. The record is of fixed size, since a line has at most forty words.
 #[derive(Clone, Copy)]
 pub struct Candidate<K> {
     pub heads: [u8; 40],
@@ -134,7 +134,7 @@ pub struct Candidate<K> {
 }
 
 impl<K> Candidate<K> {
-    // A record to fill the memory with.
+    /// A record to fill the memory with.
     pub fn new(weight: K) -> Candidate<K>
         ensures { (result.heads ≡ replicate 40 0) × (result.weight ≡ weight) × (result.from ≡ 1) × (result.banned ≡ 0) }
     {
@@ -161,19 +161,20 @@ impl<K: Kind> Ranked for Candidate<K> {
     }
 }
 
-// What the order of candidates says: of two with different heads just one comes before the other, whatever they weigh.
+/// What the order of candidates says: of two with different heads just one comes before the other, whatever they weigh.
 pub fn laws()
     ensures { NoneLevel }
 {}
 
-// Opens a sheet: every arc of its line is absent, whatever the memory held.
+/// Opens a sheet: every arc of its line is absent, whatever the memory held.
 pub fn open<K: Opens + Copy>(
     words: usize,
     weights: &[K],
     sets: &mut [u64],
     spare: Spare<'_, K>,
 ) -> Result<Sheet<K>, Refusal>
-    ensures { Answered (open_check words (lengths_of weights.now sets.old spare.entry)) result (sets.new ≡ sets.old) (IfOk result (λ s. s.words ≡ words) × Holds words no_arcs weights.now weights.now sets.old sets.new) }
+    ensures answer { Answered (open_check words (lengths_of weights.now sets.old spare.entry)) result (sets.new ≡ sets.old) (IfOk result (λ s. s.words ≡ words) × Holds words no_arcs weights.now weights.now sets.old sets.new) }
+    ensures law { IfOk result (λ s. HoldsArcs K.Kind.worth K.Kind.ranges s.words weights.now sets.new no_arcs) }
 {
     if words == 0 || words > 40 {
         return Err(Refusal::WordCount);
@@ -189,8 +190,8 @@ pub fn open<K: Opens + Copy>(
     Ok(sheet)
 }
 
-// Gives an arc a weight, in place of any that it had. Weights and sets come by themselves, and each is lent to be written only
-// where the call writes it.
+/// Gives an arc a weight, in place of any that it had. Weights and sets come by themselves, and each is lent to be written only
+/// where the call writes it.
 pub fn put<K: Opens + Copy>(
     sheet: &Sheet<K>,
     weights: &mut [K],
@@ -199,7 +200,8 @@ pub fn put<K: Opens + Copy>(
     dependent: usize,
     weight: K,
 ) -> Result<(), Refusal>
-    ensures { Answered (put_check sheet.now.words (length weights.old) (length sets.old) head dependent (entry_in K.Kind.ranges (K.Kind.worth weight))) result ((weights.new ≡ weights.old) × (sets.new ≡ sets.old)) (Holds sheet.now.words (with_arc head dependent (Some weight) (arcs_in sheet.now.words weights.old sets.old)) weights.old weights.new sets.old sets.new) }
+    ensures answer { Answered (put_check sheet.now.words (length weights.old) (length sets.old) head dependent (entry_in K.Kind.ranges (K.Kind.worth weight))) result ((weights.new ≡ weights.old) × (sets.new ≡ sets.old)) (Holds sheet.now.words (with_arc head dependent (Some weight) (arcs_in sheet.now.words weights.old sets.old)) weights.old weights.new sets.old sets.new) }
+    ensures law { ArcChanged K.Kind.worth K.Kind.ranges sheet.now.words head dependent (Some weight) result weights.old weights.new sets.old sets.new }
 {
     sheet.ends_check(weights, sets, head, dependent)?;
     if !weight.entry() {
@@ -211,7 +213,7 @@ pub fn put<K: Opens + Copy>(
     Ok(())
 }
 
-// Makes an arc absent.
+/// Makes an arc absent.
 pub fn strike<K: Opens + Copy>(
     sheet: &Sheet<K>,
     weights: &[K],
@@ -219,7 +221,8 @@ pub fn strike<K: Opens + Copy>(
     head: usize,
     dependent: usize,
 ) -> Result<(), Refusal>
-    ensures { Answered (strike_check sheet.now.words (length weights.now) (length sets.old) head dependent (is_some (arcs_in sheet.now.words weights.now sets.old head dependent))) result (sets.new ≡ sets.old) (Holds sheet.now.words (with_arc head dependent None (arcs_in sheet.now.words weights.now sets.old)) weights.now weights.now sets.old sets.new) }
+    ensures answer { Answered (strike_check sheet.now.words (length weights.now) (length sets.old) head dependent (is_some (arcs_in sheet.now.words weights.now sets.old head dependent))) result (sets.new ≡ sets.old) (Holds sheet.now.words (with_arc head dependent None (arcs_in sheet.now.words weights.now sets.old)) weights.now weights.now sets.old sets.new) }
+    ensures law { ArcChanged K.Kind.worth K.Kind.ranges sheet.now.words head dependent None result weights.now weights.now sets.old sets.new }
 {
     sheet.ends_check(weights, sets, head, dependent)?;
     if !holds(sets[dependent - 1], head) {

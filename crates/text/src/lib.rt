@@ -8,12 +8,12 @@ ghost use Rattle.text.specs.Signs.{with_sign};
 
 use refusal::Refusal;
 
-// A whole number that is told in decimal.
+/// A whole number that is told in decimal.
 pub trait Decimal: Copy {
     // its text as bytes: a minus where it is negative, and its digits
     ghost text: { Self → List ℕ };
 
-    // Whether it is negative, and the number that its digits tell: a signed number of 64 bits would not hold every `u64`.
+    /// Whether it is negative, and the number that its digits tell: a signed number of 64 bits would not hold every `u64`.
     fn parts(self) -> (bool, u64)
         ensures text { with_sign result.0 result.1 ≡ text self }
         ensures bound { length (text self) ≤ 20 };
@@ -53,7 +53,7 @@ impl Decimal for i64 {
     }
 }
 
-// How many bytes the number takes.
+/// How many bytes the number takes.
 pub fn width<N: Decimal>(n: N) -> usize
     ensures value { result ≡ length (N.text n) }
     ensures bound { result ≤ 20 }
@@ -62,8 +62,8 @@ pub fn width<N: Decimal>(n: N) -> usize
     digit_count(size) + usize::from(minus)
 }
 
-// Writes the number from the place `at` on; returns the place behind it. The space stays the caller's, so it and the place are no struct.
-// Too short a space is refused and left as it was.
+/// Writes the number from the place `at` on; returns the place behind it. The space stays the caller's, so it and the place are no struct.
+/// Too short a space is refused and left as it was.
 pub fn put<N: Decimal>(n: N, space: &mut [u8], at: usize) -> Result<usize, Refusal>
     ensures { Placed (N.text n) space.old at result space.new }
 {

@@ -24,3 +24,13 @@ RunsIntoCycle head w = (i : ℕ) × (j : ℕ) × (i < j) × (1 ≤ up head i w) 
 -- the chain of heads from w comes back to w
 abbrev pub OnCycle : (ℕ → ℕ) → ℕ → Type 0
 OnCycle head w = (1 ≤ w) × ((k : ℕ) × (up head (suc k) w ≡ w))
+
+-- the first word that the chain of heads from w meets a second time; the chain begins with w itself:
+-- it stands there after `before` steps and again after `steps`, and before that at no word twice
+pub record FirstAgain (head : ℕ → ℕ) (w again : ℕ) : Type 0 where
+  pub before : ℕ
+  pub steps : ℕ
+  pub earlier : before < steps
+  pub was : up head before w ≡ again
+  pub is : up head steps w ≡ again
+  pub apart : (i j : ℕ) → i < j → j < steps → up head i w ≡ up head j w → ⊥

@@ -1,8 +1,8 @@
 -- What a dependency tree is, over lists of heads.
-use Rattle.std.specs.Prelude.{◌≡◌, ℕ, ◌≤◌, List, length, Some, None, Ok, Err, Option, Result}
+use Rattle.std.specs.Prelude.{◌≡◌, ℕ, ◌<◌, ◌≤◌, List, length, Some, None, Ok, Err, Option, Result}
 use Rattle.refusal.specs.declared.Refusal.TheVariants.{NotATree}
 use Rattle.refusal.specs.declared.Refusal.{Refusal}
-use Rattle.tree.specs.Chains.{Word, head_of, up, Reaches, RunsIntoCycle, OnCycle}
+use Rattle.tree.specs.Chains.{Word, head_of, up, Reaches, RunsIntoCycle, OnCycle, FirstAgain}
 
 -- no word's chain of heads meets a word again
 abbrev pub CycleFree : List ℕ → Type 0
@@ -36,12 +36,20 @@ pub record LineTree (heads : List ℕ) (root : ℕ) : Type 0 where
 abbrev pub Rooted : List ℕ → Type 0
 Rooted heads = (w : ℕ) → w ≤ length heads → up (head_of heads) (length heads) w ≡ 0
 
+-- the first word of a cycle: the first that the chain of the least word running into a cycle meets again
+pub record FirstOnCycle (heads : List ℕ) (first : ℕ) : Type 0 where
+  pub start : ℕ
+  pub word : Word (length heads) start
+  pub runs : RunsIntoCycle (head_of heads) start
+  pub least : (w : ℕ) → Word (length heads) w → w < start → RunsIntoCycle (head_of heads) w → ⊥
+  pub again : FirstAgain (head_of heads) start first
+
 -- ---- what the calls tell
 
--- none, where no word runs into a cycle, or else a word that lies on one
+-- none, where no word runs into a cycle, or else a cycle's first word
 abbrev pub ToldCycle : List ℕ → Option ℕ → Type 0
 ToldCycle heads None = CycleFree heads
-ToldCycle heads (Some w) = Word (length heads) w × OnCycle (head_of heads) w
+ToldCycle heads (Some w) = FirstOnCycle heads w
 
 -- the only word on the root, or none where no word or more than one hangs there
 abbrev pub ToldRoot : List ℕ → Option ℕ → Type 0
@@ -65,3 +73,10 @@ RootedIsCycleFree =
 -- a word that lies on a cycle runs into one
 abbrev pub OnCycleRuns : Type 0
 OnCycleRuns = (heads : List ℕ) (w : ℕ) → OnCycle (head_of heads) w → RunsIntoCycle (head_of heads) w
+
+-- a cycle's first word is a word of the line that lies on a cycle, and there is one such word only
+abbrev pub FirstLies : Type 0
+FirstLies = (heads : List ℕ) (w : ℕ) → FirstOnCycle heads w → Word (length heads) w × OnCycle (head_of heads) w
+
+abbrev pub OneFirst : Type 0
+OneFirst = (heads : List ℕ) (v w : ℕ) → FirstOnCycle heads v → FirstOnCycle heads w → v ≡ w

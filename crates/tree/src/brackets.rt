@@ -8,8 +8,8 @@ use crate::check::check_heads;
 use refusal::Refusal;
 use text::{put, width};
 
-// Draws the tree of the heads at the front of the space, and returns the length of the text.
-// Heads that form no single-root tree are refused, then too short a space; a refusal leaves the space as it was.
+/// Draws the tree of the heads at the front of the space, and returns the length of the text.
+/// Heads that form no single-root tree are refused, then too short a space; a refusal leaves the space as it was.
 #[tactic(auto, using(crate::proofs::Depths::rooted, crate::proofs::Depths::written_likewise))]
 pub fn write_brackets(heads: &[u8], space: &mut [u8]) -> Result<usize, Refusal>
     ensures drawn { Drawn heads.now space.old result space.new }

@@ -32,7 +32,7 @@ fn only_root(heads: &[u8]) -> Option<usize>
     root
 }
 
-// The root's word of a single-root tree of 1 to 40 words. Any other list of heads is refused.
+/// The root's word of a single-root tree of 1 to 40 words. Any other list of heads is refused.
 #[tactic(auto, using(crate::proofs::Lines::told_free, crate::proofs::Lines::line_tree))]
 pub fn check_heads(heads: &[u8]) -> Result<usize, Refusal>
     ensures { Checked heads.now result }

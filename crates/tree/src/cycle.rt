@@ -1,7 +1,7 @@
 // Cycles in a list of heads.
 ghost use Rattle.std.specs.Prelude.{◌≡◌, None};
 ghost use Rattle.tree.specs.Chains.{head_of};
-ghost use Rattle.tree.specs.Trees.{CycleFree, OnCycleRuns, RootedIsCycleFree, ToldCycle};
+ghost use Rattle.tree.specs.Trees.{CycleFree, FirstLies, OnCycleRuns, OneFirst, RootedIsCycleFree, ToldCycle};
 
 // The head of a word; 0 for the root, and for a number above the last word.
 fn head(heads: &[u8], word: u8) -> u8
@@ -14,20 +14,25 @@ fn head(heads: &[u8], word: u8) -> u8
         .unwrap_or(0)
 }
 
-// The first word that a chain of heads meets again, or none where every chain comes to the root.
-// Any byte may stand as a head. (A `loop` and no `for`, since it is left with a value.)
+/// The first word that the chain of the least word running into a cycle meets a second time, the chain beginning with that word
+/// itself: `[2, 1]` gives 1, and `[2, 3, 2]` gives 2. None where every chain comes to the root. Any byte may stand as a head.
+/// (A `loop` and no `for`, since it is left with a value.)
 pub fn find_cycle(heads: &[u8]) -> Option<usize>
     ensures told { ToldCycle heads.now result }
     ensures only { CycleFree heads.now → result ≡ None }
-    ensures laws { (RootedIsCycleFree) × (OnCycleRuns) }
+    ensures laws { (RootedIsCycleFree) × (OnCycleRuns) × (FirstLies) × (OneFirst) }
 {
-    let mut words = heads.iter();
+    let mut words = 1..heads.len() + 1;
     'words: loop {
         let Some(first) = words.next() else {
             break 'words None;
         };
         let mut seen = [false; 256];
-        let mut word = *first;
+        // no head names a word above 255
+        if first < 256 {
+            seen[first] = true;
+        }
+        let mut word = heads[first - 1];
         while word != 0 {
             let place = usize::from(word);
             if seen[place] {

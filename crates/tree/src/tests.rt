@@ -10,6 +10,8 @@ fn checks_heads(rt: HostRuntime) {
     assert_eq!(rt; check_heads(&[0, 3]), Err(Refusal::NotATree));
     assert_eq!(rt; check_heads(&[]), Err(Refusal::NotATree));
     assert_eq!(rt; check_heads(&[0; 41]), Err(Refusal::NotATree));
+    assert_eq!(rt; find_cycle(&[2, 1]), Some(1));
+    assert_eq!(rt; find_cycle(&[0, 3, 2]), Some(2));
     assert_eq!(rt; find_cycle(&[2, 3, 2, 0]), Some(2));
     assert_eq!(rt; find_cycle(&[200, 1]), None);
 }

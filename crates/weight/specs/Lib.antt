@@ -3,3 +3,4 @@ pub mod Range
 pub mod Text
 pub mod Numbers
 pub mod Layers
+pub mod Stops

@@ -2,6 +2,7 @@
 ghost use Rattle.std.specs.Prelude.{◌≡◌, suc, ◌∷◌, drop, pos, slice_index_or};
 ghost use Rattle.std.proofs.Common.{ap, zero-le, suc-le-suc};
 ghost use Rattle.weight.specs.Layers.{layer_worth, mark_worth, root_worth, root_place};
+ghost use Rattle.weight.specs.Stops.{LayerSum, LayerDifference};
 
 use crate::span::{MarkSpan, RootSpan, Span};
 use crate::{Kind, Opens, place_difference, place_sum, show_front};
@@ -16,14 +17,14 @@ pub struct Layer<S, K> {
     of: PhantomData<S>,
 }
 
-// The mark layer: in front the teacher's mark, 0 to 9.
+/// The mark layer: in front the teacher's mark, 0 to 9.
 pub type Mark<K> = Layer<MarkSpan, K>;
 
-// The root layer: in front −1 for an arc from the root and 0 for any other. No sheet is opened with it.
+/// The root layer: in front −1 for an arc from the root and 0 for any other. No sheet is opened with it.
 pub type Root<K> = Layer<RootSpan, K>;
 
 impl<K: Kind> Mark<K> {
-    // The weight under the teacher's mark.
+    /// The weight under the teacher's mark.
     pub fn new(mark: u8, weight: K) -> Mark<K>
         ensures { mark_worth K.Kind.worth result ≡ pos mark ∷ K.Kind.worth weight }
     {
@@ -36,7 +37,7 @@ impl<K: Kind> Mark<K> {
 }
 
 impl<K: Kind> Root<K> {
-    // The weight of an arc from this head.
+    /// The weight of an arc from this head.
     pub fn new(head: usize, weight: K) -> Root<K>
         ensures { root_worth K.Kind.worth result ≡ root_place head ∷ K.Kind.worth weight }
     {
@@ -47,14 +48,14 @@ impl<K: Kind> Root<K> {
         }
     }
 
-    // The place in front: minus the number of arcs from the root in a sum.
+    /// The place in front: minus the number of arcs from the root in a sum.
     pub fn place(&self) -> i64
         ensures { result ≡ slice_index_or (root_worth K.Kind.worth self.now) 0 (pos 0) }
     {
         self.place
     }
 
-    // The weight without the place in front.
+    /// The weight without the place in front.
     pub fn weight(self) -> K
         ensures { K.Kind.worth result ≡ drop 1 (root_worth K.Kind.worth self) }
     {
@@ -74,6 +75,10 @@ impl<S: Span, K: Kind> Kind for Layer<S, K> {
     ghost worth = { layer_worth K.Kind.worth };
 
     ghost sized = { λ x. ap suc (K.Kind.sized x.rest) };
+
+    ghost sum_stops = { LayerSum K.Kind.sum_stops };
+
+    ghost difference_stops = { LayerDifference K.Kind.difference_stops };
 
     fn nothing() -> Layer<S, K> {
         Layer {

@@ -4,6 +4,7 @@
 ghost use Rattle.std.specs.Prelude.{◌≡◌, ℕ, ◌≤◌, List, length};
 ghost use Rattle.weight.specs.Worth.{Worth, zeros, SumIs, DifferenceIs, at_most, order, WorthLaws, OrderLaws, BoundLaws};
 ghost use Rattle.weight.specs.Range.{Range, Ranged, entry_in, EntryWithin};
+ghost use Rattle.weight.specs.Stops.{Unsaid};
 ghost use Rattle.weight.specs.Text.{Shown, TextLaws};
 
 use refusal::Refusal;
@@ -21,8 +22,8 @@ pub use single::{Cost, Score, Single};
 pub use span::{CostSpan, MarkSpan, RootSpan, ScoreSpan, Span};
 pub use sums::{place_difference, place_sum};
 
-// A kind of weight: its five rules are nothing, sum with difference, comparison, entry and showing. (No `Ord` and no `Display`:
-// the order is that of worths, and a text is written into a lent space.)
+/// A kind of weight: its five rules are nothing, sum with difference, comparison, entry and showing. (No `Ord` and no `Display`:
+/// the order is that of worths, and a text is written into a lent space.)
 pub trait Kind {
     // how many places a weight has
     ghost places: { ℕ };
@@ -38,30 +39,37 @@ pub trait Kind {
 
     ghost sized: { (x : Self) → length (worth x) ≡ places };
 
-    // The weight with 0 at every place.
+    // where the places of a sum and of a difference stop, however far from 0; a kind need not say it
+    ghost sum_stops: { Self → Self → Self → Type 0 } = { Unsaid };
+
+    ghost difference_stops: { Self → Self → Self → Type 0 } = { Unsaid };
+
+    /// The weight with 0 at every place.
     fn nothing() -> Self
         ensures { worth result ≡ zeros places };
 
-    // Exact while every place of both lies within ±2^40.
+    /// Exact while every place of both lies within ±2^40.
     fn sum(&self, other: &Self) -> Self
-        ensures { SumIs (worth self.now) (worth other.now) (worth result) };
+        ensures exact { SumIs (worth self.now) (worth other.now) (worth result) }
+        ensures stops { sum_stops self.now other.now result };
 
-    // Exact while every place of both lies within ±2^40.
+    /// Exact while every place of both lies within ±2^40.
     fn difference(&self, other: &Self) -> Self
-        ensures { DifferenceIs (worth self.now) (worth other.now) (worth result) };
+        ensures exact { DifferenceIs (worth self.now) (worth other.now) (worth result) }
+        ensures stops { difference_stops self.now other.now result };
 
     fn compare(&self, other: &Self) -> Ordering
         ensures { result ≡ order (worth self.now) (worth other.now) };
 
-    // Whether a sheet takes the weight: each place lies in its range.
+    /// Whether a sheet takes the weight: each place lies in its range.
     fn entry(&self) -> bool
         ensures { result ≡ entry_in ranges (worth self.now) };
 
-    // Writes the places in decimal, joined by commas, to the front of the space, and answers the length.
+    /// Writes the places in decimal, joined by commas, to the front of the space, and answers the length.
     fn show(&self, space: &mut [u8]) -> Result<usize, Refusal>
         ensures { Shown (worth self.now) space.old space.new result };
 
-    // Whether this one is no greater: the comparison's answer, for every kind.
+    /// Whether this one is no greater: the comparison's answer, for every kind.
     fn at_most(&self, other: &Self) -> bool
         ensures { result ≡ at_most (worth self.now) (worth other.now) }
     {
@@ -69,10 +77,10 @@ pub trait Kind {
     }
 }
 
-// A kind that a sheet can be opened with.
+/// A kind that a sheet can be opened with.
 pub trait Opens: Kind {}
 
-// What holds of all worths and their texts.
+/// What holds of all worths and their texts.
 pub fn laws()
     ensures group { WorthLaws }
     ensures order { OrderLaws }

@@ -6,14 +6,14 @@ use crate::Kind;
 use refusal::Refusal;
 use text::{put, width};
 
-// Shows a single place.
+/// Shows a single place.
 pub fn show_place(place: i64, space: &mut [u8]) -> Result<usize, Refusal>
     ensures { Shown (place ∷ []) space.old space.new result }
 {
     put(place, space, 0)
 }
 
-// Shows a place, a comma, and the places of the weight behind it.
+/// Shows a place, a comma, and the places of the weight behind it.
 pub fn show_front<K: Kind>(front: i64, rest: &K, space: &mut [u8]) -> Result<usize, Refusal>
     ensures { Shown (front ∷ K.Kind.worth rest.now) space.old space.new result }
 {

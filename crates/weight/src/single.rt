@@ -2,6 +2,7 @@
 ghost use Rattle.std.specs.Prelude.{◌≡◌, [], ◌∷◌, pos, neg_ℤ, refl};
 ghost use Rattle.std.proofs.Common.{lit≤};
 ghost use Rattle.weight.specs.Numbers.{single_worth, score_worth, cost_worth};
+ghost use Rattle.weight.specs.Stops.{SingleSum, SingleDifference};
 
 use crate::span::{CostSpan, ScoreSpan, Span};
 use crate::{Kind, Opens, place_difference, place_sum, show_place};
@@ -15,10 +16,10 @@ pub struct Single<S> {
     of: PhantomData<S>,
 }
 
-// A score: −1,000,000 to 1,000,000.
+/// A score: −1,000,000 to 1,000,000.
 pub type Score = Single<ScoreSpan>;
 
-// A cost: the negative of a cost from 0 to 1,000,000, so that the least cost outweighs.
+/// A cost: the negative of a cost from 0 to 1,000,000, so that the least cost outweighs.
 pub type Cost = Single<CostSpan>;
 
 impl Score {
@@ -44,7 +45,7 @@ impl Cost {
 }
 
 impl<S: Span> Single<S> {
-    // The number at the one place.
+    /// The number at the one place.
     pub fn value(&self) -> i64
         ensures { single_worth self.now ≡ result ∷ [] }
     {
@@ -64,6 +65,10 @@ impl<S: Span> Kind for Single<S> {
     ghost worth = { single_worth };
 
     ghost sized = { λ x. refl };
+
+    ghost sum_stops = { SingleSum };
+
+    ghost difference_stops = { SingleDifference };
 
     fn nothing() -> Single<S> {
         Single {

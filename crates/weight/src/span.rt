@@ -16,7 +16,7 @@ pub trait Span {
     ghost ranged: { Ranged (record { least = LEAST; greatest = GREATEST } ∷ []) };
 }
 
-// A score's place: −1,000,000 to 1,000,000.
+/// A score's place: −1,000,000 to 1,000,000.
 #[derive(Clone, Copy, PartialEq, Eq, Debug)]
 pub struct ScoreSpan;
 
@@ -32,7 +32,7 @@ impl Span for ScoreSpan {
     ghost ranged = { (le_z_yes tt, le_z_yes tt, le_z_yes tt, le_z_yes tt, tt) };
 }
 
-// A cost's place, the negative of the cost: −1,000,000 to 0.
+/// A cost's place, the negative of the cost: −1,000,000 to 0.
 #[derive(Clone, Copy, PartialEq, Eq, Debug)]
 pub struct CostSpan;
 
@@ -48,7 +48,7 @@ impl Span for CostSpan {
     ghost ranged = { (le_z_yes tt, le_z_yes tt, le_z_yes tt, le_z_yes tt, tt) };
 }
 
-// The teacher's mark in front: 0 to 9.
+/// The teacher's mark in front: 0 to 9.
 #[derive(Clone, Copy, PartialEq, Eq, Debug)]
 pub struct MarkSpan;
 
@@ -64,7 +64,7 @@ impl Span for MarkSpan {
     ghost ranged = { (le_z_yes tt, le_z_yes tt, le_z_yes tt, le_z_yes tt, tt) };
 }
 
-// The root layer's place in front: −1 for an arc from the root, 0 for any other.
+/// The root layer's place in front: −1 for an arc from the root, 0 for any other.
 #[derive(Clone, Copy, PartialEq, Eq, Debug)]
 pub struct RootSpan;
 

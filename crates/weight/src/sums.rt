@@ -1,18 +1,18 @@
 // Sums of single places. Beyond 64 bits they stop at the ends, so that nothing wraps.
-ghost use Rattle.std.specs.Prelude.{◌≡◌, [], ◌∷◌, ◌+ℤ◌, ◌-ℤ◌};
-ghost use Rattle.std.specs.Int.{w64, saturate_signed};
+ghost use Rattle.std.specs.Prelude.{[], ◌∷◌};
+ghost use Rattle.weight.specs.Stops.{PlaceSum, PlaceDifference};
 ghost use Rattle.weight.specs.Worth.{SumIs, DifferenceIs};
 
 pub fn place_sum(a: i64, b: i64) -> i64
     ensures exact { SumIs (a ∷ []) (b ∷ []) (result ∷ []) }
-    ensures stops { result ≡ saturate_signed w64 (a +ℤ b) }
+    ensures stops { PlaceSum a b result }
 {
     a.saturating_add(b)
 }
 
 pub fn place_difference(a: i64, b: i64) -> i64
     ensures exact { DifferenceIs (a ∷ []) (b ∷ []) (result ∷ []) }
-    ensures stops { result ≡ saturate_signed w64 (a -ℤ b) }
+    ensures stops { PlaceDifference a b result }
 {
     a.saturating_sub(b)
 }

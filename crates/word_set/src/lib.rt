@@ -7,7 +7,7 @@ ghost use Rattle.std.specs.Iterator.{at_most};
 ghost use Rattle.word_set.specs.Bits.{in_set};
 ghost use Rattle.word_set.specs.Words.{NextWord};
 
-// Whether the word is in the set.
+/// Whether the word is in the set.
 #[tactic(auto, using(crate::proofs::Sets::bit_is, crate::proofs::Sets::in_set_beyond))]
 pub fn holds(set: u64, word: usize) -> bool
     ensures { result ≡ in_set set word }
@@ -15,7 +15,7 @@ pub fn holds(set: u64, word: usize) -> bool
     word < 64 && (set >> word) & 1 == 1
 }
 
-// The set of one word; no word above 63 is in a set.
+/// The set of one word; no word above 63 is in a set.
 #[tactic(auto, using(crate::proofs::Sets::only_small, crate::proofs::Sets::only_near, crate::proofs::Sets::only_far))]
 pub fn only(word: usize) -> u64
     ensures words { (v : ℕ) → in_set result v ≡ (v == word && nat_lt word 64) }
@@ -24,7 +24,7 @@ pub fn only(word: usize) -> u64
     if word < 64 { 1 << word } else { 0 }
 }
 
-// The words of either set.
+/// The words of either set.
 #[tactic(auto, using(crate::proofs::Sets::in_set_or))]
 pub fn either(a: u64, b: u64) -> u64
     ensures { (v : ℕ) → in_set result v ≡ (in_set a v || in_set b v) }
@@ -32,7 +32,7 @@ pub fn either(a: u64, b: u64) -> u64
     a | b
 }
 
-// The words of both sets.
+/// The words of both sets.
 #[tactic(auto, using(crate::proofs::Sets::in_set_and))]
 pub fn both(a: u64, b: u64) -> u64
     ensures { (v : ℕ) → in_set result v ≡ (in_set a v && in_set b v) }
@@ -40,7 +40,7 @@ pub fn both(a: u64, b: u64) -> u64
     a & b
 }
 
-// The words of the first set that are not in the second.
+/// The words of the first set that are not in the second.
 #[tactic(auto, using(crate::proofs::Sets::in_set_less))]
 pub fn without(a: u64, b: u64) -> u64
     ensures { (v : ℕ) → in_set result v ≡ (in_set a v && not (in_set b v)) }
@@ -48,7 +48,7 @@ pub fn without(a: u64, b: u64) -> u64
     a ^ (a & b)
 }
 
-// The words of a set, lowest first: `left` are those that are still to come.
+/// The words of a set, lowest first: `left` are those that are still to come.
 #[derive(Drop)]
 pub struct Words {
     pub left: u64,
@@ -73,7 +73,7 @@ impl Iterator for Words {
     }
 }
 
-// The words of the set, lowest first.
+/// The words of the set, lowest first.
 pub fn words_of(set: u64) -> Words
     ensures { result.left ≡ set }
 {

@@ -6,7 +6,7 @@ use Rattle.tree.specs.Trees.{LineTree}
 
 pub returns : goal.returns
 returns c =
-    let heads = vec_items c.in_ok-heads.heads in
+    let heads = vec_items c.in-Some.heads in
     let root = c.in-Ok.root in
     let len = c.in-Ok-write_brackets.len in
     let after = c.write_brackets.new.space in

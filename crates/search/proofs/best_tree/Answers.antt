@@ -4,8 +4,8 @@ use Rattle.std.proofs.lemmas.Int.{ints}
 use Rattle.weight.specs.Worth.{Worth}
 use Rattle.weight.specs.Layers.{root_worth}
 use Rattle.tree.specs.Chains.{head_of}
-use Rattle.arborescence.specs.Search.{tree_worth}
-use Rattle.search.specs.Arcs.{allowed, weight_at, arc_worth}
+use Rattle.arborescence.specs.Search.{worth_of_heads}
+use Rattle.search.specs.Arcs.{allowed, weight_at, layered_worth}
 use Rattle.search.proofs.Finds.{arc_length, sound, total_is, no_tree, several, the_heaviest, front_head, new_front}
 use Rattle.search.proofs.Found.{found_by}
 use Rattle.search.proofs.best_tree.Goals as goal
@@ -13,14 +13,10 @@ use Rattle.search.proofs.best_tree.Goals as goal
 suc_same : {a b : ℕ} → suc a ≡ suc b → a ≡ b
 suc_same {a} {b} e = omega (arith, e)
 
-pub heaviest-requires : goal.heaviest-requires
-heaviest-requires g c =
+pub heaviest-requires-clause-sound : goal.heaviest-requires-clause-sound
+heaviest-requires-clause-sound g c =
     let W = g.K.Kind in
-    let k = c.in_ok-check.ensures in
-    record {
-      space = record { nodes_in = k.1.nodes_in; merges_in = k.1.merges_in; potentials_in = k.1.potentials_in };
-      sound = sound W.worth W.places W.sized c.args.words c.args.weights.now k.1.weights_in W.ranges W.ranged.1 (allowed c.args.sets.now c.args.held.now) c.if-not-all_entries.ensures;
-    }
+    sound W.worth W.places W.sized c.args.words c.args.weights.now c.in_ok-check.ensures.1.weights_in W.ranges W.ranged.1 (allowed c.args.sets.now c.args.held.now) c.if-not-all_entries.ensures
 
 pub returns-in_default-clause-told : goal.returns-in_default-clause-told
 returns-in_default-clause-told g c =
@@ -48,8 +44,8 @@ returns-then-place-clause-told g c =
     let worth : ℕ → ℕ → Worth = weight_at W.worth n c.args.weights.now in
     let head : ℕ → ℕ = head_of c.in-Some.found in
     let best = c.in-Some.ensures.0 in
-    let whole = total_is (arc_worth W.worth n c.args.weights.now) head (suc W.places) n k.0.0 (λ w v. arc_length W.worth W.places W.sized n c.args.weights.now k.1.weights_in (head w) w v (best.0.in_line w v)) in
-    let total : root_worth W.worth c.tree_weight-total.result ≡ tree_worth (arc_worth W.worth n c.args.weights.now) head n = c.tree_weight-total.ensures ∙ whole in (
+    let whole = total_is (layered_worth W.worth n c.args.weights.now) head (suc W.places) n k.0.0 (λ w v. arc_length W.worth W.places W.sized n c.args.weights.now k.1.weights_in (head w) w v (best.0.in_line w v)) in
+    let total : root_worth W.worth c.tree_weight-total.result ≡ worth_of_heads (layered_worth W.worth n c.args.weights.now) head n = c.tree_weight-total.ensures ∙ whole in (
       k.0,
       k.1,
       k.2,
@@ -67,8 +63,8 @@ returns-clause-told g c =
     let worth : ℕ → ℕ → Worth = weight_at W.worth n c.args.weights.now in
     let head : ℕ → ℕ = head_of c.in-Some.found in
     let best = c.in-Some.ensures.0 in
-    let whole = total_is (arc_worth W.worth n c.args.weights.now) head (suc W.places) n k.0.0 (λ w v. arc_length W.worth W.places W.sized n c.args.weights.now k.1.weights_in (head w) w v (best.0.in_line w v)) in
-    let total : root_worth W.worth c.tree_weight-total.result ≡ tree_worth (arc_worth W.worth n c.args.weights.now) head n = c.tree_weight-total.ensures ∙ whole in
+    let whole = total_is (layered_worth W.worth n c.args.weights.now) head (suc W.places) n k.0.0 (λ w v. arc_length W.worth W.places W.sized n c.args.weights.now k.1.weights_in (head w) w v (best.0.in_line w v)) in
+    let total : root_worth W.worth c.tree_weight-total.result ≡ worth_of_heads (layered_worth W.worth n c.args.weights.now) head n = c.tree_weight-total.ensures ∙ whole in
     let here : c.place.result ≡ negsuc 0 = omega (arith, ints, c.if-place.false) in
     let front = sym (ap (λ (x : Worth). get_or x 0 (pos 0)) total) ∙ (sym c.place.ensures ∙ here) in
     let new = c.copy_from_slice.new.self in

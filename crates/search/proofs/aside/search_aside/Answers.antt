@@ -8,12 +8,12 @@ pub returns-clause-told : goal.returns-clause-told
 returns-clause-told g c =
     let a = c.args in
     (aside_same g.K.Kind.worth g.K.Kind.ranges a.words a.sets.now a.held.now a.barred c.without.result (weight_at g.K.Kind.worth a.words a.weights.now)
-    (λ (k : ℕ). Room a.words k (length a.weights.now) (length a.working.now.nodes.now) (length a.working.now.merges.now) (length a.working.now.potentials.now)) a.heads.now c.best_tree.new.heads c.best_tree.result c.requires c.without.ensures
+    (λ (k : ℕ). Room a.words k (length a.weights.now) (length a.working.now.nodes.now) (length a.working.now.merges.now) (length a.working.now.potentials.now)) a.heads.now c.best_tree.new.heads c.best_tree.result c.requires.held c.without.ensures
     c.seen.ensures c.best_tree.ensures.told c.best_tree.ensures.settled).0
 
 pub returns-clause-settled : goal.returns-clause-settled
 returns-clause-settled g c =
     let a = c.args in
     (aside_same g.K.Kind.worth g.K.Kind.ranges a.words a.sets.now a.held.now a.barred c.without.result (weight_at g.K.Kind.worth a.words a.weights.now)
-    (λ (k : ℕ). Room a.words k (length a.weights.now) (length a.working.now.nodes.now) (length a.working.now.merges.now) (length a.working.now.potentials.now)) a.heads.now c.best_tree.new.heads c.best_tree.result c.requires c.without.ensures
+    (λ (k : ℕ). Room a.words k (length a.weights.now) (length a.working.now.nodes.now) (length a.working.now.merges.now) (length a.working.now.potentials.now)) a.heads.now c.best_tree.new.heads c.best_tree.result c.requires.held c.without.ensures
     c.seen.ensures c.best_tree.ensures.told c.best_tree.ensures.settled).1

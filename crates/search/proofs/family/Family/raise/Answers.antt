@@ -1,4 +1,4 @@
-use Rattle.std.proofs.Common.{◌≡◌, ℕ, ◌+◌, ◌^◌, ◌<◌, Bool, [], length, get_or, sym, ap, ◌∙◌, subst, arith}
+use Rattle.std.proofs.Common.{◌≡◌, ℕ, ◌+◌, ◌^◌, ◌<◌, Bool, [], length, get_or, sym, ap, ◌∙◌, subst, arith, rules}
 use Rattle.std.proofs.lemmas.List.{get_or-map}
 use Rattle.weight.specs.Worth.{Worth, plus, minus, Within}
 use Rattle.tree.specs.Chains.{Word}
@@ -12,6 +12,11 @@ use Rattle.search.proofs.Records.{entry_value}
 use Rattle.search.proofs.Raised.{RaisedTo, raised_yes, raised_no}
 use Rattle.search.proofs.family.Family.raise.Goals.{then-holds, else-holds}
 use Rattle.search.proofs.family.Family.raise.Goals as goal
+
+pub offset_bounds-potentials-word-then-holds : goal.offset_bounds-potentials-word-then-holds
+offset_bounds-potentials-word-then-holds g c =
+    let l : c.loop-word.word < length c.loop-word.potentials = omega arith in
+    search (rules, l, c.loop-word.auto.potentials)
 
 pub loop-word-preserved : goal.loop-word-preserved
 loop-word-preserved g c =
@@ -34,10 +39,10 @@ loop-word-preserved g c =
           let all : Worth = root_worth f c.args.all in
           let at_small : Within (2 ^ 30) at = c.requires.added w v in
           let all_small : Within (2 ^ 32) all = c.requires.total in
-          let s : root_worth f y.sum-sum.result ≡ plus at all = y.sum-sum.ensures (subst (Within (2 ^ 40)) (sym a) (within_more (2 ^ 30) (2 ^ 40) at (omega arith) at_small)) (within_more (2 ^ 32) (2 ^ 40) all (omega arith) all_small) ∙ ap (λ (x : Worth). plus x all) a in
+          let s : root_worth f y.sum-sum.result ≡ plus at all = y.sum-sum.ensures.exact (subst (Within (2 ^ 40)) (sym a) (within_more (2 ^ 30) (2 ^ 40) at (omega arith) at_small)) (within_more (2 ^ 32) (2 ^ 40) all (omega arith) all_small) ∙ ap (λ (x : Worth). plus x all) a in
           let sum_small : Within (2 ^ 40) (root_worth f y.sum-sum.result) = subst (Within (2 ^ 40)) (sym s) (within_more (2 ^ 30 + 2 ^ 32) (2 ^ 40) (plus at all) (omega arith) (within_plus (2 ^ 30) (2 ^ 32) at all at_small all_small)) in
           let value_small : Within (2 ^ 40) (root_worth f y.top-node.result.arc.value) = subst (Within (2 ^ 40)) (sym e) (within_more (2 ^ 26) (2 ^ 40) (best_of base ms w) (omega arith) (c.requires.values w v)) in
-          let q : root_worth f y.difference.result ≡ r w = y.difference.ensures sum_small value_small ∙ (ap (λ (x : Worth). minus x (root_worth f y.top-node.result.arc.value)) s ∙ ap (minus (plus at all)) e) in
+          let q : root_worth f y.difference.result ≡ r w = y.difference.ensures.exact sum_small value_small ∙ (ap (λ (x : Worth). minus x (root_worth f y.top-node.result.arc.value)) s ∙ ap (minus (plus at all)) e) in
           subst (λ xs. RaisedTo (root_worth f) n S r old xs (w + 1)) (sym y.potentials-is) (raised_yes (root_worth f) n S r old c.loop-word.potentials w y.difference.result l (sym y.if-holds.ensures) q c.loop-word.invariant)
       | else-holds y ↦
           subst (λ xs. RaisedTo (root_worth f) n S r old xs (w + 1)) (sym y.potentials-is) (raised_no (root_worth f) n S r old c.loop-word.potentials w (sym y.if-holds.ensures) c.loop-word.invariant)

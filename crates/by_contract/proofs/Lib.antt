@@ -1,0 +1,2 @@
+mod Composed
+mod OfFiles

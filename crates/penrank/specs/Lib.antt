@@ -1,0 +1,3 @@
+pub mod Rankings
+pub mod Files
+pub mod Steps
