@@ -1,6 +1,6 @@
 -- A file's reading and a take, each by what its public contract says.
-use Rattle.std.proofs.Common.{◌≡◌, ℕ, false, List, [], length, Some, None, Ok, Err, Option, Result, sym, refl, ◌∙◌, subst, arith, take}
-use Rattle.by_contract.proofs.Composed.{passed}
+use Rattle.std.proofs.Common.{◌≡◌, ℕ, false, List, [], length, replicate, OnErr, Some, None, Ok, Err, Option, Result, sym, refl, ap, ◌∙◌, subst, arith, take, drop}
+use Rattle.by_contract.proofs.Composed.{no_heads, passed}
 use Rattle.by_contract.specs.Law.{arcs_of_file, OfFile}
 use Rattle.by_contract.specs.declared.FirstTaken.{FirstTaken}
 use Rattle.file.specs.Formats.{Format}
@@ -46,18 +46,21 @@ module _
     {K : Type 0} (f : Format K) (worth : K → Worth) (ranges : List Range) (l : Lengths) (file : List ℕ) (sheet : Sheet K) (a : FirstTaken K) (weights : List K) (sets space : List ℕ) (ranking ranking' : Ranking K) (memory memory' : MemoryParts K)
     (words : a.words ≡ sheet.words) (same : part_lengths memory ≡ l) (reads : ReadAs f l file (Ok sheet) weights memory.weights sets memory.sets) (holds : HoldsArcs worth ranges sheet.words memory.weights memory.sets (arcs_of_file f file))
     (ranks : ranking.sheet.words ≡ sheet.words) (begins : (memory : MemoryParts K) (arcs : Arcs K) → HoldsArcs worth ranges sheet.words memory.weights memory.sets arcs → StandsFor worth ranges ranking memory arcs [])
-    (room : length space ≡ 40) (takes : Took worth ranges ranking ranking' memory memory' space a.heads a.taken)
+    (fresh : space ≡ replicate 40 0) (takes : Took worth ranges ranking ranking' memory memory' space a.heads a.taken)
   where
     pub kept : OfFile f worth ranges l file (Ok a) weights memory'.weights sets memory'.sets
     kept =
         let few = sheet.line.1 in
         let long = enough f l file sheet weights memory.weights sets memory.sets reads in
+        let room : length space ≡ 40 = ap length fresh in
         let answer = takes.law (arcs_of_file f file) [] (begins memory (arcs_of_file f file) holds) in (
           Ok sheet,
           rw (takes.weights, takes.sets) reads,
           record {
             words = words;
             told = subst (λ (k : ℕ). Tells worth k (arcs_of_file f file) [] (take k a.heads) a.taken) ranks (answer.0 (rw ranks (subst (λ (m : Lengths). too_short sheet.words m ≡ false) (sym same) long)) (omega arith));
+            beyond = subst (λ (k : ℕ). drop k a.heads ≡ drop k space) ranks takes.space_beyond ∙ ap (drop sheet.words) fresh;
+            unwritten = subst (λ (l : List ℕ). OnErr a.taken (a.heads ≡ l)) fresh (no_heads worth ranges ranking ranking' memory memory' space a.heads a.taken takes);
             held = subst (λ (k : ℕ). HoldsArcs worth ranges k memory'.weights memory'.sets (arcs_of_file f file)) (takes.words ∙ ranks) answer.1.sheet;
           },
         )

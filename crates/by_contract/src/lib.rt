@@ -2,7 +2,8 @@
 #![tactic(auto)]
 
 ghost use Rattle.std.specs.Prelude.{◌≡◌};
-ghost use Rattle.by_contract.specs.Law.{AsOne, lengths_lent, OfFile};
+ghost use Rattle.by_contract.specs.Law.{AsOne, OfFile};
+ghost use Rattle.ranking.specs.Calls.{part_lengths};
 ghost use Rattle.sheet.specs.Calls.{Answered, open_check};
 
 use file::{FileFault, Recorded, read};
@@ -34,7 +35,7 @@ pub fn two_words<K: Opens + Copy>(
     merges: &mut [Node<K>],
     potentials: &mut [Root<K>],
 ) -> Result<Answers<K>, Refusal>
-    ensures { Answered (open_check 2 (lengths_lent weights.old sets.old candidates.old nodes.old merges.old potentials.old)) result ((weights.new ≡ weights.old) × (sets.new ≡ sets.old)) (AsOne K.Kind.worth K.Kind.ranges first second result weights.new sets.new) }
+    ensures { let lent = part_lengths (record { weights = weights.old; sets = sets.old; candidates = candidates.old; nodes = nodes.old; merges = merges.old; potentials = potentials.old }) in Answered (open_check 2 lent) result ((weights.new ≡ weights.old) × (sets.new ≡ sets.old)) (AsOne K.Kind.worth K.Kind.ranges lent first second result weights.new sets.new) }
 {
     let spare = Spare {
         candidates,
@@ -89,7 +90,7 @@ pub fn first_of_file<K: Recorded + Copy>(
     merges: &mut [Node<K>],
     potentials: &mut [Root<K>],
 ) -> Result<FirstTaken<K>, FileFault>
-    ensures { OfFile K.format K.Kind.worth K.Kind.ranges (lengths_lent weights.old sets.old candidates.old nodes.old merges.old potentials.old) file.now result weights.old weights.new sets.old sets.new }
+    ensures { let lent = part_lengths (record { weights = weights.old; sets = sets.old; candidates = candidates.old; nodes = nodes.old; merges = merges.old; potentials = potentials.old }) in OfFile K.format K.Kind.worth K.Kind.ranges lent file.now result weights.old weights.new sets.old sets.new }
 {
     let spare = Spare {
         candidates,

@@ -4,7 +4,7 @@ use Rattle.std.specs.Prelude.{⊤}
 use Rattle.std.specs.Io.KnownBytes.{Appends}
 use Rattle.std.proofs.KnownBytes.{Appends-nil, Appends-trans}
 use Rattle.std.specs.Global.{Vec}
-use Rattle.console.specs.Answers.{Answered, AnswersEach}
+use Rattle.console.specs.Answers.{LinesAnswered, AnswersEach}
 use Rattle.console.specs.Ends.{IsOutOfMemory}
 use Rattle.console.specs.Lines.{lines_in, Short, GivesLine}
 use Rattle.console.specs.declared.LineError.{LineError}
@@ -12,7 +12,7 @@ use Rattle.console.specs.declared.LineError.TheVariants.{TooLong, Io}
 
 module _ (answers : List ℕ → List ℕ → Type 0) where
   -- one line more
-  answered_more : (lines : List (List ℕ)) (line text first : List ℕ) → Answered answers lines text → Short line → answers line first → Answered answers (lines ++ line ∷ []) (text ++ first)
+  answered_more : (lines : List (List ℕ)) (line text first : List ℕ) → LinesAnswered answers lines text → Short line → answers line first → LinesAnswered answers (lines ++ line ∷ []) (text ++ first)
   answered_more [] line text first done short is = (first, [], ap (λ l. l ++ first) done ∙ sym (append-nil first), short, is, refl)
   answered_more (l ∷ lines) line text first done short is =
       let (front, rest, whole, short', is', done') = done in
@@ -22,7 +22,7 @@ module _ (answers : List ℕ → List ℕ → Type 0) where
   abbrev pub SoFar : Option (List ℕ) → Option (List ℕ) → Option (List ℕ) → Option (List ℕ) → Type 0
   SoFar None left held holds = ⊤
   SoFar (Some bytes) None held holds = ⊥
-  SoFar (Some bytes) (Some left) held holds = (before : List (List ℕ)) × (text : List ℕ) × (lines_in bytes ≡ before ++ lines_in left) × Answered answers before text × Appends held holds text
+  SoFar (Some bytes) (Some left) held holds = (before : List (List ℕ)) × (text : List ℕ) × (lines_in bytes ≡ before ++ lines_in left) × LinesAnswered answers before text × Appends held holds text
 
   pub so_far_none : (bytes held : Option (List ℕ)) → SoFar bytes bytes held held
   so_far_none None held = tt
@@ -48,7 +48,7 @@ module _ (answers : List ℕ → List ℕ → Type 0) where
   so_far_all (Some bytes) None rest held holds so given = absurd so
   so_far_all (Some bytes) (Some left) rest held holds so given =
       let (before, done, whole, answered, grown) = so in
-      (done, subst (λ l. Answered answers l done) (sym (whole ∙ ap (λ l. before ++ l) given ∙ append-nil before)) answered, grown)
+      (done, subst (λ l. LinesAnswered answers l done) (sym (whole ∙ ap (λ l. before ++ l) given ∙ append-nil before)) answered, grown)
 
   pub so_far_long : (bytes left rest held holds : Option (List ℕ)) (error : LineError) → SoFar bytes left held holds → GivesLine left (Some (Err error)) rest
       → IfSome bytes (λ known. AnswersEach answers (lines_in known) (Err error) held holds)

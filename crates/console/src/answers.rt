@@ -12,6 +12,7 @@ pub trait Answer {
     // the text is an answer to the line
     ghost answers: { List ℕ → List ℕ → Type 0 };
 
+    /// The answer to a line.
     fn answer(&mut self, line: &[u8]) -> Result<Vec<u8>, AllocError>
         ensures { IfOk result (λ text. answers line.now text.items) };
 }

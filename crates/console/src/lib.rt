@@ -6,13 +6,15 @@ ghost use Rattle.console.specs.Inputs.{lines_remaining};
 ghost use Rattle.console.specs.declared.LineError.TheVariants.{Io};
 ghost use Rattle.console.specs.Ends.{told_text, EndsAs, IsOutOfMemory};
 ghost use Rattle.std.specs.Io.BufRead.{strip_last};
-ghost use Rattle.std.specs.Io.KnownBytes.{Appends, Consumes};
-ghost use Rattle.std.specs.Io.{StartsWith, StopsAt, IsEmptyOrEndsWith, appended_bytes};
-ghost use Rattle.std.specs.IoError.{error_kind};
+ghost use Rattle.std.specs.Io.KnownBytes.{Appends};
+ghost use Rattle.std.specs.Io.{IsEmptyOrEndsWith};
 ghost use Rattle.std.specs.Iterator.{at_most};
-ghost use Rattle.std.specs.Prelude.{◌≡◌, ◌≢◌, ◌<◌, ◌≤◌, ◌+◌, ◌-◌, ◌^◌, true, false, length, take, All, IfErr, IfOk, IfSome, MatchOption, [], slice_index, IsOk, OnOk, Ok, vec_items, vec_len};
+ghost use Rattle.std.specs.Prelude.{◌≡◌, ◌≢◌, ◌<◌, ◌≤◌, ◌+◌, ◌-◌, ◌^◌, true, false, length, take, All, IfOk, MatchOption, [], slice_index, OnOk, Ok, Err};
+ghost use Rattle.std.specs.IoError.{error_kind};
+ghost use Rattle.std.specs.declared.io.ErrorKind.TheVariants.{Interrupted};
 
 mod answers;
+/// A reader and a writer of one byte a call.
 pub mod pieces;
 
 pub use answers::{Answer, answer_lines};
@@ -68,6 +70,18 @@ fn ends_line(part: &[u8]) -> bool
     part.is_empty() || part[part.len() - 1] == b'\n'
 }
 
+// After a failed look at the input: an interrupted one is tried again, any other failure is told.
+fn after_failure(error: io::Error) -> io::Result<bool>
+    ensures again { error_kind error ≡ Interrupted → result ≡ Ok false }
+    ensures told { error_kind error ≢ Interrupted → result ≡ Err error }
+{
+    if error.kind() == ErrorKind::Interrupted {
+        Ok(false)
+    } else {
+        Err(error)
+    }
+}
+
 // Puts what the reader has at hand behind the line, up to and with the first LF, and at most `room` bytes.
 // Whether the line ends there: with its LF, or with the input.
 fn take_part<R: BufRead>(input: &mut R, line: &mut Vec<u8>, room: usize) -> io::Result<bool>
@@ -76,13 +90,7 @@ fn take_part<R: BufRead>(input: &mut R, line: &mut Vec<u8>, room: usize) -> io::
 {
     let available = match input.fill_buf() {
         Ok(available) => available,
-        Err(error) => {
-            return if error.kind() == ErrorKind::Interrupted {
-                Ok(false)
-            } else {
-                Err(error)
-            };
-        }
+        Err(error) => return after_failure(error),
     };
     let most = available.len().min(room);
     let end = length_through(&available[..most]);

@@ -12,6 +12,7 @@ pub struct OneByteReader<'a> {
 }
 
 impl<'a> OneByteReader<'a> {
+    /// A reader of these bytes.
     pub fn new(bytes: &'a [u8]) -> Self
         ensures { result.rest.now ≡ bytes.now }
     {
@@ -40,6 +41,7 @@ pub struct OneByteWriter {
 }
 
 impl OneByteWriter {
+    /// A writer that holds nothing yet.
     pub fn new(heap: Global) -> Self
         ensures { result.taken.items ≡ [] }
     {
@@ -48,6 +50,7 @@ impl OneByteWriter {
         }
     }
 
+    /// The bytes that it was given.
     pub fn taken(&self) -> &[u8]
         ensures { result.now ≡ self.now.taken.items }
     {

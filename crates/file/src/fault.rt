@@ -11,8 +11,11 @@ use std::fmt;
 /// The kinds of weight that a file can hold.
 #[derive(Clone, Copy, PartialEq, Eq, Debug)]
 pub enum FileKind {
+    /// scores
     Score = 1,
+    /// costs
     Cost = 2,
+    /// marks over scores
     Mark = 3,
 }
 

@@ -12,6 +12,7 @@ pub trait Recorded: Opens {
     // how the weights lie in a record
     ghost format: { Format Self };
 
+    /// Which kind of file holds it.
     fn file_kind() -> FileKind
         ensures { result ≡ format.kind };
 

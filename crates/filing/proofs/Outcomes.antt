@@ -1,48 +1,21 @@
 -- A reader's answer is what the file says.
-use Rattle.std.proofs.Common.{◌≡◌, ℕ, ◌+◌, ◌*◌, ◌-◌, ◌%◌, ◌≤◌, Bool, true, false, cond, eqb, ltb, ◌||◌, List, length, slice_index, Some, None, Ok, Err, Option, Result, refl, sym, ap, ◌∙◌, arith, le-ltb, not}
+use Rattle.std.proofs.Common.{◌≡◌, ℕ, ◌+◌, ◌*◌, ◌-◌, ◌≤◌, false, ltb, List, Some, None, Ok, Err, Option, Result, refl, sym, ap, ◌∙◌, arith, le-ltb}
 use Rattle.file.specs.Formats.{Format}
-use Rattle.file.specs.Kinds.{kind_number}
-use Rattle.file.specs.Reading.{HeldAfter, OpeningRead, ReadAs, FrameRead, RecordsRead, frame_words, record_count, words_of_kind}
+use Rattle.file.specs.Reading.{HeldAfter, OpeningRead, ReadAs, FrameRead, RecordsRead, frame_words, record_count}
 use Rattle.file.specs.Records.{put_records, records_check}
-use Rattle.file.specs.declared.fault.FileFault.TheVariants.{Length, Kind, Sheet as SheetFault, Record}
 use Rattle.file.specs.declared.fault.FileFault.{FileFault}
-use Rattle.file.specs.declared.fault.FileKind.{FileKind}
 use Rattle.file.specs.declared.fault.RecordFault.{RecordFault}
-use Rattle.filing.specs.Outcomes.{ReadsTruly, file_says, frame_says, records_say}
+use Rattle.filing.specs.Outcomes.{ReadsTruly, for_any_line, with_arcs}
 use Rattle.ranking.specs.Memory.{MemoryParts}
-use Rattle.refusal.specs.declared.Refusal.TheVariants.{WordCount}
 use Rattle.refusal.specs.declared.Refusal.{Refusal}
+use Rattle.run.specs.Files.{frame_answer, opening_answer, read_answer, records_answer}
 use Rattle.sheet.specs.Arcs.{Arcs, arcs_in, no_arcs}
 use Rattle.sheet.specs.Calls.{open_check, too_short}
 use Rattle.sheet.specs.declared.Lengths.{Lengths}
 use Rattle.sheet.specs.declared.Sheet.{Sheet}
 use Rattle.std.proofs.Math.Nat.{mul-le-mul_left}
-use Rattle.std.proofs.lemmas.Bool.Decides.{nat_tests}
 use Rattle.weight.specs.Range.{Range}
 use Rattle.weight.specs.Worth.{Worth}
-
--- a test that does not fail
-passed : (b : Bool) (e : FileFault) (next : Result ℕ FileFault) (n : ℕ) → cond b (Err e) next ≡ Ok n → (b ≡ false) × (next ≡ Ok n)
-passed true e next n is = absurd cc
-passed false e next n is = (refl, is)
-
-on_a_line : (w : ℕ) → (eqb w 0 || ltb 40 w) ≡ false → (1 ≤ w) × (w ≤ 40)
-on_a_line w e = (grind (arith, nat_tests), grind (arith, nat_tests))
-
--- a frame tells 1 to 40 words
-words_told : (kind : FileKind) (width : ℕ) (file : List ℕ) (told : Result FileKind FileFault) (n : ℕ) → words_of_kind kind width file told ≡ Ok n → (1 ≤ n) × (n ≤ 40)
-words_told kind width file (Err e) n is = absurd cc
-words_told kind width file (Ok told) n is =
-    let w = slice_index file 4 in
-    let part : Bool = not (eqb ((length file - 5) % (width + 2)) 0) in
-    let off : Bool = eqb w 0 || ltb 40 w in
-    let last : Result ℕ FileFault = cond part (Err Length) (Ok w) in
-    let next : Result ℕ FileFault = cond off (Err (SheetFault WordCount)) last in
-    let same_kind = passed (not (eqb (kind_number told) (kind_number kind))) Kind next n is in
-    let line = passed off (SheetFault WordCount) last n same_kind.1 in
-    let some = on_a_line w line.0 in
-    let same : w ≡ n = cc ((passed part Length (Ok w) n line.1).1) in
-    (omega arith, omega arith)
 
 -- memory for forty words is long enough for any line
 pub long_enough : (n : ℕ) (l : Lengths) → n ≤ 40 → l.weights ≡ 1640 → l.sets ≡ 40 → l.candidates ≡ 51 → l.nodes ≡ 41 → l.merges ≡ 39 → l.potentials ≡ 41 → too_short n l ≡ false
@@ -56,33 +29,36 @@ long_enough n l few w s c o m p =
     let e6 : ltb l.potentials (n + 1) ≡ false = le-ltb _ _ (omega arith) in
     rw (e1, e2, e3, e4, e5, e6) refl
 
-opens : (n : ℕ) (l : Lengths) → 1 ≤ n → n ≤ 40 → too_short n l ≡ false → open_check n l ≡ None
-opens n l some few long =
-    let e : (eqb n 0 || ltb 40 n) ≡ false = grind (arith, nat_tests) in
-    rw (e, long) refl
+module _ {K : Type 0} (f : Format K) (l : Lengths) (file : List ℕ) (weights weights' : List K) (sets sets' : List ℕ) where
+  abbrev words_of : Result (Sheet K) FileFault → Result ℕ FileFault
+  words_of (Ok s) = Ok s.words
+  words_of (Err e) = Err e
+
+  by_records : (n : ℕ) (x : Option RecordFault) (r : Result (Sheet K) FileFault) → RecordsRead f n file x r weights weights' sets sets' → records_answer n x ≡ words_of r
+  by_records n (Some e) r is = sym (ap words_of is.0)
+  by_records n None (Ok s) is = sym (ap Ok is.1)
+  by_records n None (Err e) is = absurd (let no = is.0 in cc)
+
+  by_opening : (n : ℕ) (x : Option Refusal) (r : Result (Sheet K) FileFault) → OpeningRead f n file x r weights weights' sets sets' → opening_answer f file n x ≡ words_of r
+  by_opening n (Some e) r is = sym (ap words_of is.0)
+  by_opening n None r is = by_records n (records_check f n file 0 (record_count f.width file)) r is
+
+  by_frame : (x : Result ℕ FileFault) (r : Result (Sheet K) FileFault) → FrameRead f l file x r weights weights' sets sets' → frame_answer f l file x ≡ words_of r
+  by_frame (Err e) r is = sym (ap words_of is.0)
+  by_frame (Ok n) r is = by_opening n (open_check n l) r is
+
+  -- a reader answers by the file and by how long its memory is
+  answers : (r : Result (Sheet K) FileFault) → ReadAs f l file r weights weights' sets sets' → read_answer f l file ≡ words_of r
+  answers r is = by_frame (frame_words f.kind f.width file) r is
 
 module _ {K : Type 0} (f : Format K) (worth : K → Worth) (ranges : List Range) (file : List ℕ) (memory : MemoryParts K) (weights : List K) (sets : List ℕ) where
-  at_records : (n : ℕ) (x : Option RecordFault) (r : Result (Sheet K) FileFault) → file_says f file ≡ records_say f file n x → RecordsRead f n file x r weights memory.weights sets memory.sets → HeldAfter f worth ranges file r memory.weights memory.sets → ReadsTruly f worth ranges file memory r
-  at_records n (Some e) (Ok s) says is held = absurd (let no = is.0 in cc)
-  at_records n (Some e) (Err g) says is held = let same : g ≡ Record e = cc (is.0) in says ∙ ap Err (sym same)
-  at_records n None (Err g) says is held = absurd (let no = is.0 in cc)
-  at_records n None (Ok s) says is held =
+  pub reads_truly : (l : Lengths) (r : Result (Sheet K) FileFault) → l ≡ for_any_line → ReadAs f l file r weights memory.weights sets memory.sets → HeldAfter f worth ranges file r memory.weights memory.sets → ReadsTruly f worth ranges file memory r
+  reads_truly l (Err e) any is held =
+      let put : Arcs K = put_records f file 0 (record_count f.width file) no_arcs in
+      ap (λ (m : Lengths). with_arcs put (read_answer f m file)) (sym any) ∙ ap (with_arcs put) (answers f l file weights memory.weights sets memory.sets (Err e) is)
+  reads_truly l (Ok s) any is held =
       let put : Arcs K = put_records f file 0 (record_count f.width file) no_arcs in
       let same : arcs_in s.words memory.weights memory.sets ≡ put = λ i. λ h d. held.standing h d i in (
-        says ∙ ap (λ k. Ok (k, put)) (sym is.1) ∙ ap (λ (a : Arcs K). Ok (s.words, a)) (sym same),
+        ap (λ (m : Lengths). with_arcs put (read_answer f m file)) (sym any) ∙ ap (with_arcs put) (answers f l file weights memory.weights sets memory.sets (Ok s) is) ∙ ap (λ (a : Arcs K). Ok (s.words, a)) (sym same),
         record { standing = λ h d. refl; entries = λ h d k is. held.entries h d k (sym (held.standing h d) ∙ is) },
       )
-
-  at_opening : (n : ℕ) (x : Option Refusal) (r : Result (Sheet K) FileFault) → x ≡ None → file_says f file ≡ frame_says f file (Ok n) → OpeningRead f n file x r weights memory.weights sets memory.sets → HeldAfter f worth ranges file r memory.weights memory.sets → ReadsTruly f worth ranges file memory r
-  at_opening n (Some e) r none says is held = absurd cc
-  at_opening n None r none says is held = at_records n (records_check f n file 0 (record_count f.width file)) r says is held
-
-  at_frame : (l : Lengths) (x : Result ℕ FileFault) (r : Result (Sheet K) FileFault) → ((n : ℕ) → x ≡ Ok n → open_check n l ≡ None) → file_says f file ≡ frame_says f file x → FrameRead f l file x r weights memory.weights sets memory.sets → HeldAfter f worth ranges file r memory.weights memory.sets → ReadsTruly f worth ranges file memory r
-  at_frame l (Err e) (Ok s) none says is held = absurd (let no = is.0 in cc)
-  at_frame l (Err e) (Err g) none says is held = let same : g ≡ e = cc (is.0) in says ∙ ap Err (sym same)
-  at_frame l (Ok n) r none says is held = at_opening n (open_check n l) r (none n refl) says is held
-
-  pub reads_truly : (l : Lengths) (r : Result (Sheet K) FileFault) → ((n : ℕ) → n ≤ 40 → too_short n l ≡ false) → ReadAs f l file r weights memory.weights sets memory.sets → HeldAfter f worth ranges file r memory.weights memory.sets → ReadsTruly f worth ranges file memory r
-  reads_truly l r long is held =
-      let frame = frame_words f.kind f.width file in
-      at_frame l frame r (λ n e. let line = words_told f.kind f.width file _ n e in opens n l line.0 line.1 (long n line.1)) refl is held

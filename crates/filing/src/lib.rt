@@ -2,10 +2,12 @@
 #![tactic(auto)]
 
 ghost use Rattle.desk.specs.Parts.{parts_of};
+ghost use Rattle.file.specs.Reading.{HeldAfter, ReadAs};
 ghost use Rattle.filing.specs.Inputs.{ReadIn, fault_text};
 ghost use Rattle.filing.specs.Outcomes.{ReadsTruly};
+ghost use Rattle.ranking.specs.Calls.{part_lengths};
 ghost use Rattle.std.specs.Io.KnownBytes.{Appends};
-ghost use Rattle.std.specs.Prelude.{IfOk, OnOk};
+ghost use Rattle.std.specs.Prelude.{◌≡◌, IfOk, OnOk};
 
 use desk::Memory;
 use file::{FileFault, Recorded};
@@ -27,12 +29,16 @@ pub fn read_file<R: Read + Drop>(heap: Global, input: R) -> io::Result<Vec<u8>>
     Ok(file)
 }
 
-/// Reads a file of the kind into a memory, which has room for any: the sheet that its records leave, or its first fault.
+/// Reads a file of the kind into a memory, which has room for any: the sheet that its records leave, or its first fault. It leaves the
+/// memory as the reader does, in which no part but the weights and the sets changes.
 pub fn read_sheet<K: Recorded + Copy>(
     file: &[u8],
     memory: &mut Memory<K>,
 ) -> Result<Sheet<K>, FileFault>
-    ensures { ReadsTruly K.format K.Kind.worth K.Kind.ranges file.now (parts_of memory.new) result }
+    ensures truly { ReadsTruly K.format K.Kind.worth K.Kind.ranges file.now (parts_of memory.new) result }
+    ensures answer { ReadAs K.format (part_lengths (parts_of memory.old)) file.now result memory.old.weights.items memory.new.weights.items memory.old.sets.items memory.new.sets.items }
+    ensures law { HeldAfter K.format K.Kind.worth K.Kind.ranges file.now result memory.new.weights.items memory.new.sets.items }
+    ensures others { parts_of memory.new ≡ record (parts_of memory.old) { weights = memory.new.weights.items; sets = memory.new.sets.items } }
 {
     memory.read(file)
 }

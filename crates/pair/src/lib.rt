@@ -11,6 +11,7 @@ use refusal::Refusal;
 use std::cmp::Ordering;
 use weight::{Kind, Opens, Score, place_difference, place_sum, show_front};
 
+/// A weight of two places: −5 to 5, then 0 to 1000.
 #[derive(Clone, Copy, PartialEq, Eq, Debug)]
 pub struct Pair {
     first: i64,
@@ -18,6 +19,7 @@ pub struct Pair {
 }
 
 impl Pair {
+    /// The weight with these places.
     pub fn new(first: i64, second: i64) -> Pair
         ensures { pair_worth result ≡ first ∷ (second ∷ []) }
     {

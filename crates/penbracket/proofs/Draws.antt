@@ -5,9 +5,9 @@ use Rattle.text.proofs.Places.{placed_ok}
 use Rattle.tree.specs.Brackets.{bracketed, Drawn}
 use Rattle.tree.specs.Trees.{LineTree}
 
-pub drawn_text : (heads space after : List ℕ) (root len : ℕ) → LineTree heads root → Drawn heads space (Ok len) after → take len after ≡ bracketed heads root
-drawn_text heads space after root len tree (inr none) = absurd (none.0 root tree)
-drawn_text heads space after root len tree (inl drawn) =
+pub drawn_brackets : (heads space after : List ℕ) (root len : ℕ) → LineTree heads root → Drawn heads space (Ok len) after → take len after ≡ bracketed heads root
+drawn_brackets heads space after root len tree (inr none) = absurd (none.0 root tree)
+drawn_brackets heads space after root len tree (inl drawn) =
     let other : ℕ = drawn.0 in
     let same : other ≡ root = tree.top.only other drawn.1.top.word drawn.1.top.hangs in
     let placed = placed_ok (bracketed heads other) space 0 len after drawn.2 in

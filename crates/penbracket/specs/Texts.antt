@@ -41,3 +41,8 @@ drawing_text line (Err (TooLong heads)) = heads_text line (length (vec_items hea
 -- the text tells what becomes of the line
 abbrev pub TellsDrawing : List ℕ → List ℕ → Type 0
 TellsDrawing line text = (drawn : Result Drawing Fault) × DrawingOf line drawn × (text ≡ drawing_text line drawn)
+
+-- ---- what is to show
+-- a line settles its text, to the byte
+abbrev pub OneText : Type 0
+OneText = (line text text' : List ℕ) → TellsDrawing line text → TellsDrawing line text' → text ≡ text'

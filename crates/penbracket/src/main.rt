@@ -2,7 +2,7 @@
 #![tactic(auto)]
 
 ghost use Rattle.penbracket.specs.Drawing.{DrawingOf};
-ghost use Rattle.penbracket.specs.Texts.{TellsDrawing, heads_text, shown_text, drawn_text, no_list_text, no_tree_text, too_long_text, drawing_text};
+ghost use Rattle.penbracket.specs.Texts.{TellsDrawing, OneText, heads_text, shown_text, drawn_text, no_list_text, no_tree_text, too_long_text, drawing_text};
 ghost use Rattle.console.specs.Answers.{AnswersEach};
 ghost use Rattle.console.specs.Lines.{lines_in};
 ghost use Rattle.std.specs.Prelude.{◌≡◌, ◌++◌, IfOk, IfSome, string_bytes};
@@ -28,7 +28,7 @@ pub struct Drawing {
 pub enum Fault {
     /// the line is no list of numbers
     NoList,
-    /// its heads form no single-root tree; with a word that lies on a cycle, if one does
+    /// its heads form no single-root tree; with the first word of a cycle, as `find_cycle` tells it
     NoTree(Vec<u8>, Option<usize>),
     /// the brackets of its heads are longer than 160 bytes
     TooLong(Vec<u8>),
@@ -70,7 +70,7 @@ fn heads_text(heap: Global, line: &[u8], words: usize) -> Result<Vec<u8>, AllocE
 
 // What is told of a tree.
 #[tactic(auto, using(std::proofs::Common::append_assoc))]
-fn tree_text(heap: Global, line: &[u8], drawing: &Drawing) -> Result<Vec<u8>, AllocError>
+fn drawn_text(heap: Global, line: &[u8], drawing: &Drawing) -> Result<Vec<u8>, AllocError>
     ensures { IfOk result (λ text. text.items ≡ drawn_text line.now drawing.now) }
 {
     let root = drawing.root;
@@ -144,7 +144,7 @@ fn drawing_text(
     ensures { IfOk result (λ text. text.items ≡ drawing_text line.now drawn.now) }
 {
     match drawn {
-        Ok(drawing) => tree_text(heap, line, drawing),
+        Ok(drawing) => drawn_text(heap, line, drawing),
         Err(Fault::NoList) => no_list_text(heap, line),
         Err(Fault::NoTree(heads, cycle)) => {
             let why = no_tree_text(heap, *cycle)?;
@@ -169,6 +169,15 @@ impl Answer for Drawer {
     fn answer(&mut self, line: &[u8]) -> Result<Vec<u8>, AllocError> {
         drawing_text(self.heap, line, &draw(self.heap, line)?)
     }
+}
+
+/// A line settles every byte that is told of it.
+pub fn laws()
+    ensures { OneText }
+{
+    // it spells one list of bytes only, and a cycle has one first word only
+    reading::laws();
+    let _ = find_cycle(&[]);
 }
 
 /// Draws each line of the input, in order.

@@ -1,6 +1,6 @@
 -- Lines and arcs, one after another.
 use Rattle.std.proofs.Common.{◌≡◌, ℕ, zero, suc, ◌+◌, ◌-◌, ◌≤◌, Bool, true, false, cond, ◌&&◌, slice_index, List, [], ◌∷◌, ◌++◌, Some, None, Option, refl, sym, ap, ◌∙◌, arith, append_assoc, append-nil}
-use Rattle.penfile.specs.Lines.{standing, standing_into}
+use Rattle.penfile.specs.Lines.{standing_at, standing_into}
 use Rattle.penfile.specs.declared.Standing.{Standing}
 use Rattle.sheet.specs.Arcs.{Arcs, arcs_in, on_line, place}
 use Rattle.std.proofs.lemmas.Bool.Decides.{nat_tests}
@@ -28,13 +28,13 @@ module _ {K : Type 0} (worth : K → Worth) (ranges : List Range) (arcs : Arcs K
   abbrev IsEntry : Standing K → Type 0
   IsEntry arc = entry_in ranges (worth arc.weight) ≡ true
 
-  one : (h d : ℕ) (x : Option K) → arcs h d ≡ x → AllByRecursion IsEntry (standing h d x)
+  one : (h d : ℕ) (x : Option K) → arcs h d ≡ x → AllByRecursion IsEntry (standing_at h d x)
   one h d None e = tt
   one h d (Some k) e = (entries h d k e, tt)
 
-  into : (d a n : ℕ) → AllByRecursion IsEntry (flat_map (λ h. standing h d (arcs h d)) (range_with_len a n))
+  into : (d a n : ℕ) → AllByRecursion IsEntry (flat_map (λ h. standing_at h d (arcs h d)) (range_with_len a n))
   into d a zero = tt
-  into d a (suc n) = All-append IsEntry (standing a d (arcs a d)) _ (one a d (arcs a d) refl) (into d (a + 1) n)
+  into d a (suc n) = All-append IsEntry (standing_at a d (arcs a d)) _ (one a d (arcs a d) refl) (into d (a + 1) n)
 
   pub all_entries : (n a m : ℕ) → AllByRecursion IsEntry (flat_map (λ d. standing_into arcs d (n + 1)) (range_with_len a m))
   all_entries n a zero = tt
@@ -42,26 +42,26 @@ module _ {K : Type 0} (worth : K → Worth) (ranges : List Range) (arcs : Arcs K
 
 -- the arc at a place, where it stands and where it does not
 module _ {K : Type 0} (n h d : ℕ) (weights : List K) (sets : List ℕ) where
-  stood : (b : Bool) (x : Option K) (k : K) → b ≡ true → x ≡ Some k → standing h d (cond b x None) ≡ record { head = h; dependent = d; weight = k } ∷ []
+  stood : (b : Bool) (x : Option K) (k : K) → b ≡ true → x ≡ Some k → standing_at h d (cond b x None) ≡ record { head = h; dependent = d; weight = k } ∷ []
   stood b x k e is = rw (e, is) refl
 
   on : h ≤ n → 1 ≤ d → d ≤ n → on_line n h d ≡ true
   on head first last = grind (arith, nat_tests)
 
-  pub stands_here : (k : K) → h ≤ n → 1 ≤ d → d ≤ n → in_set (slice_index sets (d - 1)) h ≡ true → slice_get weights (place n h d) ≡ Some k → standing h d (arcs_in n weights sets h d) ≡ record { head = h; dependent = d; weight = k } ∷ []
+  pub stands_here : (k : K) → h ≤ n → 1 ≤ d → d ≤ n → in_set (slice_index sets (d - 1)) h ≡ true → slice_get weights (place n h d) ≡ Some k → standing_at h d (arcs_in n weights sets h d) ≡ record { head = h; dependent = d; weight = k } ∷ []
   stands_here k head first last up is =
       let line = on head first last in
       let both : (on_line n h d && in_set (slice_index sets (d - 1)) h) ≡ true = rw (line, up) refl in
       stood _ _ k both is
 
-  pub absent_here : h ≤ n → 1 ≤ d → d ≤ n → in_set (slice_index sets (d - 1)) h ≡ false → standing h d (arcs_in n weights sets h d) ≡ []
+  pub absent_here : h ≤ n → 1 ≤ d → d ≤ n → in_set (slice_index sets (d - 1)) h ≡ false → standing_at h d (arcs_in n weights sets h d) ≡ []
   absent_here head first last up =
       let line = on head first last in
       rw (line, up) refl
 
 -- the arcs into a word so far, and those of one head more
-pub grown : {K : Type 0} (old items longer : List (Standing K)) (arcs : Arcs K) (d h : ℕ) (more : List (Standing K)) → items ≡ old ++ standing_into arcs d h → longer ≡ items ++ more → standing h d (arcs h d) ≡ more → longer ≡ old ++ standing_into arcs d (h + 1)
+pub grown : {K : Type 0} (old items longer : List (Standing K)) (arcs : Arcs K) (d h : ℕ) (more : List (Standing K)) → items ≡ old ++ standing_into arcs d h → longer ≡ items ++ more → standing_at h d (arcs h d) ≡ more → longer ≡ old ++ standing_into arcs d (h + 1)
 grown old items longer arcs d h more so put is =
     let at : 0 + h ≡ h = omega arith in
-    let step = one_more (λ (k : ℕ). standing k d (arcs k d)) 0 h (h + 1) refl ∙ ap (λ (k : ℕ). standing_into arcs d h ++ standing k d (arcs k d)) at in
+    let step = one_more (λ (k : ℕ). standing_at k d (arcs k d)) 0 h (h + 1) refl ∙ ap (λ (k : ℕ). standing_into arcs d h ++ standing_at k d (arcs k d)) at in
     put ∙ ap (λ l. l ++ more) so ∙ append_assoc old (standing_into arcs d h) more ∙ ap (λ l. old ++ l) (ap (λ l. standing_into arcs d h ++ l) (sym is) ∙ sym step)

@@ -32,12 +32,12 @@ count_line count = codes "arcs: " ++ (decimal count ++ (10 ∷ []))
 
 -- ---- the arcs that stand on a line of n words, by their dependents, then by their heads
 
-abbrev pub standing : {K : Type 0} → ℕ → ℕ → Option K → List (Standing K)
-standing h d None = []
-standing h d (Some k) = record { head = h; dependent = d; weight = k } ∷ []
+abbrev pub standing_at : {K : Type 0} → ℕ → ℕ → Option K → List (Standing K)
+standing_at h d None = []
+standing_at h d (Some k) = record { head = h; dependent = d; weight = k } ∷ []
 
 abbrev pub standing_into : {K : Type 0} → Arcs K → ℕ → ℕ → List (Standing K)
-standing_into arcs d heads = flat_map (λ h. standing h d (arcs h d)) (range_with_len 0 heads)
+standing_into arcs d heads = flat_map (λ h. standing_at h d (arcs h d)) (range_with_len 0 heads)
 
 abbrev pub all_standing : {K : Type 0} → ℕ → Arcs K → ℕ → List (Standing K)
 all_standing n arcs dependents = flat_map (λ d. standing_into arcs d (n + 1)) (range_with_len 1 dependents)

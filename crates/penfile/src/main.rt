@@ -2,11 +2,10 @@
 // stand in the end; or the refusal with its number and byte place.
 #![tactic(auto)]
 
-ghost use Rattle.desk.specs.Parts.{parts_of};
 ghost use Rattle.file.specs.Reading.{record_count};
 ghost use Rattle.penfile.specs.Files.{FileShown, file_shown, kind_shown};
 ghost use Rattle.penfile.specs.Lines.{all_standing, arc_line, arc_lines, record_lines, standing_into};
-ghost use Rattle.sheet.specs.Arcs.{HoldsArcs, arcs_in};
+ghost use Rattle.sheet.specs.Arcs.{arcs_in};
 ghost use Rattle.std.specs.Io.KnownBytes.{Appends};
 ghost use Rattle.std.specs.List.{AllByRecursion};
 ghost use Rattle.std.specs.Prelude.{◌≡◌, ◌+◌, ◌≤◌, ◌++◌, true, IfOk, OnOk};
@@ -145,8 +144,11 @@ fn show_kind<W: Write>(heap: Global, file: &[u8], out: &mut W) -> io::Result<()>
     }
 }
 
-// Reads a file, and shows it. Only reading, writing and want of memory make it fail.
-fn show_file<R: Read + Drop, W: Write>(heap: Global, input: R, out: &mut W) -> io::Result<()>
+/// Reads a file from the input, to its end or so far that it is longer than any, and writes its steps: its kind, its number of words, the arc
+/// that each record names, the arcs that stand in the end with their weights, and how many these are. Of a refused file it writes the line of
+/// the first fault, behind the kind and the words where a kind is told, and that is no error: only reading, writing and want of memory make it
+/// fail.
+pub fn show_file<R: Read + Drop, W: Write>(heap: Global, input: R, out: &mut W) -> io::Result<()>
     ensures { OnOk result (FileShown (R.remaining input) (W.contents out.old) (W.contents out.new)) }
 {
     let file = read_file(heap, input)?;

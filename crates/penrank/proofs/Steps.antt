@@ -1,10 +1,10 @@
 -- From one line to the next.
-use Rattle.std.proofs.Common.{◌≡◌, ◌≢◌, ℕ, suc, ◌+◌, ◌-◌, ◌<◌, ◌≤◌, List, [], ◌∷◌, ◌++◌, length, Ok, Err, Option, Result, IsOk, refl, sym, ap, ◌∙◌, subst, arith}
+use Rattle.std.proofs.Common.{◌≡◌, ◌≢◌, ℕ, ◌-◌, ◌<◌, List, [], ◌∷◌, ◌++◌, Ok, Err, Option, Result, IsOk, refl, subst, arith}
+use Rattle.console.specs.Answers.{Writes}
 use Rattle.lines.specs.Ends.{ToldEnd, end_number}
 use Rattle.lines.specs.Lines.{tree_text, last_text}
 use Rattle.lines.specs.declared.Last.TheVariants.{NoTree as NoTreeLast, NoMore as NoMoreLast, Fifty as FiftyLast}
 use Rattle.lines.specs.declared.Last.{Last}
-use Rattle.penrank.specs.Files.{Writes}
 use Rattle.penrank.specs.Rankings.{RankingText, tree_lines}
 use Rattle.penrank.specs.Steps.{TreeWritten, LastWritten, LinesSoFar}
 use Rattle.ranking.specs.Calls.{after_take}
@@ -73,7 +73,7 @@ module _ {K : Type 0} (worth : K → Worth) (ranges : List Range) (n : ℕ) (arc
   )
 
   -- the whole text
-  pub ended : (ranking : Ranking K) (memory : MemoryParts K) (before middle after : Option (List ℕ)) (so : LinesSoFar worth ranges n arcs ranking memory before middle) → LastWritten worth ranges n arcs so.trees middle after → Writes (RankingText worth n arcs) before after
+  pub ended : (ranking : Ranking K) (memory : MemoryParts K) (before middle after : Option (List ℕ)) (so : LinesSoFar worth ranges n arcs ranking memory before middle) → LastWritten worth ranges n arcs so.trees middle after → Writes before after (RankingText worth n arcs)
   ended ranking memory before middle after so last = (
     tree_lines worth n arcs so.trees ++ last_text last.end,
     record { trees = so.trees; handed = so.handed; why = last.why; none = last.none; end = last.end; told = last.told; lines = refl },

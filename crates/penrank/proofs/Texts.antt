@@ -1,6 +1,6 @@
 -- A file settles its text.
 use Rattle.std.proofs.Common.{◌≡◌, ℕ, suc, ◌<◌, ◌≤◌, ◌⊎◌, inl, inr, List, [], ◌∷◌, ◌++◌, length, Ok, Err, Result, refl, sym, ap, ◌∙◌, subst, arith}
-use Rattle.lines.specs.Ends.{ToldEnd, end_number}
+use Rattle.lines.specs.Ends.{end_number}
 use Rattle.lines.specs.Lines.{last_text}
 use Rattle.lines.specs.declared.Last.TheVariants.{NoTree, NoMore, Fifty}
 use Rattle.lines.specs.declared.Last.{Last}
@@ -15,7 +15,6 @@ use Rattle.penrank.specs.Rankings.{HandedInTurn, RankingText, tree_lines}
 use Rattle.ranking.proofs.Settling.{settled}
 use Rattle.ranking.specs.Order.{SameWorths}
 use Rattle.ranking.specs.Takes.{NoneHanded, Tells}
-use Rattle.ranking.specs.declared.state.Taken.{Taken}
 use Rattle.refusal.specs.Refusals.{number_of}
 use Rattle.refusal.specs.declared.Refusal.{Refusal}
 use Rattle.sheet.specs.Arcs.{Arcs}

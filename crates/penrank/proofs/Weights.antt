@@ -1,11 +1,11 @@
 -- What a tree weighs is small, since its arcs weigh no more than entries do.
-use Rattle.std.proofs.Common.{◌≡◌, ℕ, suc, ◌+◌, ◌*◌, ◌^◌, ◌<◌, ◌≤◌, true, List, [], ◌∷◌, length, get_or, Some, None, Option, is_some, refl, sym, ap, ◌∙◌, subst, arith}
+use Rattle.std.proofs.Common.{◌≡◌, ℕ, suc, ◌+◌, ◌*◌, ◌^◌, ◌<◌, ◌≤◌, true, List, [], ◌∷◌, length, get_or, Some, None, Option, is_some, refl, sym, subst, arith}
 use Rattle.arborescence.specs.Heads.{worth_from}
 use Rattle.ranking.specs.Takes.{HandedOut}
 use Rattle.ranking.specs.Trees.{TreeOf, arc_worth, tree_worth, weight_worth}
 use Rattle.sheet.specs.Arcs.{Arcs}
 use Rattle.std.specs.List.{AllByRecursion}
-use Rattle.tree.specs.Chains.{Word, head_of}
+use Rattle.tree.specs.Chains.{Word}
 use Rattle.weight.proofs.Ranges.{entry_within}
 use Rattle.weight.proofs.Worths.{within_more, within_plus}
 use Rattle.weight.specs.Range.{Range, Ranged, entry_in, limit}

@@ -1,5 +1,6 @@
 -- What is written for a file.
 use Rattle.std.specs.Prelude.{◌≡◌, ℕ, List, Ok, Err, Option, Result}
+use Rattle.console.specs.Answers.{Writes}
 use Rattle.file.specs.Formats.{Format, score_format, cost_format, mark_format}
 use Rattle.file.specs.Frame.{kind_of}
 use Rattle.file.specs.declared.fault.FileFault.{FileFault}
@@ -9,7 +10,6 @@ use Rattle.filing.specs.Inputs.{ReadIn, fault_text}
 use Rattle.filing.specs.Outcomes.{file_says}
 use Rattle.penrank.specs.Rankings.{RankingText}
 use Rattle.sheet.specs.Arcs.{Arcs}
-use Rattle.std.specs.Io.KnownBytes.{Appends}
 use Rattle.weight.specs.Layers.{mark_worth}
 use Rattle.weight.specs.Numbers.{score_worth, cost_worth}
 use Rattle.weight.specs.Worth.{Worth}
@@ -33,13 +33,9 @@ TextByKind file (Ok Mark) text = KindText mark_format (mark_worth score_worth) f
 abbrev pub FileText : List ℕ → List ℕ → Type 0
 FileText file text = TextByKind file (kind_of file) text
 
--- behind what the output held now stands a text of which this is true
-abbrev pub Writes : (List ℕ → Type 0) → (before after : Option (List ℕ)) → Type 0
-Writes Is before after = (text : List ℕ) × Is text × Appends before after text
-
 -- a file was read of the input, and its text was written
 abbrev pub FileRanked : (input before after : Option (List ℕ)) → Type 0
-FileRanked input before after = (file : List ℕ) × ReadIn input file × Writes (FileText file) before after
+FileRanked input before after = (file : List ℕ) × ReadIn input file × Writes before after (FileText file)
 
 -- ---- what is to show
 -- a file settles its text, to the byte

@@ -1,5 +1,5 @@
 -- What the steps of a ranking write.
-use Rattle.std.specs.Prelude.{◌≡◌, ℕ, suc, true, false, Bool, List, ◌∷◌, length, Ok, Option}
+use Rattle.std.specs.Prelude.{ℕ, suc, true, false, Bool, List, ◌∷◌, length, Ok, Option}
 use Rattle.lines.specs.Ends.{ToldEnd}
 use Rattle.lines.specs.Lines.{tree_text, last_text}
 use Rattle.lines.specs.declared.Last.{Last}

@@ -2,9 +2,10 @@
 // first, and a last line that tells why there is no further; or the one line of a refused file.
 #![tactic(auto)]
 
+ghost use Rattle.console.specs.Answers.{Writes};
 ghost use Rattle.desk.specs.Parts.{parts_of};
 ghost use Rattle.lines.specs.Lines.{last_text, tree_text};
-ghost use Rattle.penrank.specs.Files.{FileText, KindText, OneText, FileRanked, Writes};
+ghost use Rattle.penrank.specs.Files.{FileText, KindText, OneText, FileRanked};
 ghost use Rattle.penrank.specs.Rankings.{RankingText};
 ghost use Rattle.penrank.specs.Steps.{LineWritten};
 ghost use Rattle.ranking.specs.Memory.{StandsFor};
@@ -77,7 +78,7 @@ fn write_ranking<K: Recorded + Copy, W: Write>(
     out: &mut W,
 ) -> io::Result<()>
     requires { HoldsArcs K.Kind.worth K.Kind.ranges sheet.words memory.old.weights.items memory.old.sets.items (arcs_in sheet.words memory.old.weights.items memory.old.sets.items) }
-    ensures { OnOk result (Writes (RankingText K.Kind.worth sheet.words (arcs_in sheet.words memory.old.weights.items memory.old.sets.items)) (W.contents out.old) (W.contents out.new)) }
+    ensures { OnOk result (Writes (W.contents out.old) (W.contents out.new) (RankingText K.Kind.worth sheet.words (arcs_in sheet.words memory.old.weights.items memory.old.sets.items))) }
 {
     let words = sheet.words();
     let mut ranking = begin(sheet);
@@ -87,7 +88,7 @@ fn write_ranking<K: Recorded + Copy, W: Write>(
 
 // Reads a file of a kind and writes its ranking, or why it is refused.
 fn rank<K: Recorded + Copy, W: Write>(heap: Global, file: &[u8], out: &mut W) -> io::Result<()>
-    ensures { OnOk result (Writes (KindText K.format K.Kind.worth file.now) (W.contents out.old) (W.contents out.new)) }
+    ensures { OnOk result (Writes (W.contents out.old) (W.contents out.new) (KindText K.format K.Kind.worth file.now)) }
 {
     let mut memory = Memory::<K>::new(heap)?;
     match read_sheet(file, &mut memory) {
@@ -98,7 +99,7 @@ fn rank<K: Recorded + Copy, W: Write>(heap: Global, file: &[u8], out: &mut W) ->
 
 // Writes the ranking of a file of any kind, or why it is refused.
 fn rank_kind<W: Write>(heap: Global, file: &[u8], out: &mut W) -> io::Result<()>
-    ensures { OnOk result (Writes (FileText file.now) (W.contents out.old) (W.contents out.new)) }
+    ensures { OnOk result (Writes (W.contents out.old) (W.contents out.new) (FileText file.now)) }
 {
     match kind_of(file) {
         Ok(FileKind::Score) => rank::<Score, W>(heap, file, out),
@@ -108,8 +109,10 @@ fn rank_kind<W: Write>(heap: Global, file: &[u8], out: &mut W) -> io::Result<()>
     }
 }
 
-// Reads a file and writes its ranking, or why it is refused. Only reading, writing and want of memory make it fail.
-fn rank_file<R: Read + Drop, W: Write>(heap: Global, input: R, out: &mut W) -> io::Result<()>
+/// Reads the file that the input gives, and writes the ranking of its sheet behind what the output holds: a line for each tree, and a
+/// last line that tells why there is no further; or, of a file that is refused, the one line of its first fault. It reads at most one
+/// byte more than the longest file has. Only reading, writing and want of memory make it fail.
+pub fn rank_file<R: Read + Drop, W: Write>(heap: Global, input: R, out: &mut W) -> io::Result<()>
     ensures { OnOk result (FileRanked (R.remaining input) (W.contents out.old) (W.contents out.new)) }
 {
     let file = read_file(heap, input)?;

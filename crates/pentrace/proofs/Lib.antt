@@ -5,3 +5,5 @@ mod Following
 mod Lines
 mod Turns
 mod Reading
+mod Asked
+mod Settled

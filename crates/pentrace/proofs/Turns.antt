@@ -1,5 +1,6 @@
 -- The turns of a run on a fresh sheet, and the text of what is behind an `open`
-use Rattle.pentrace.specs.Script.{RunOf, SheetText, TurnsOf, Writes, opens, score_ranges}
+use Rattle.console.specs.Answers.{Writes}
+use Rattle.pentrace.specs.Script.{RunOf, SheetText, TurnsOf, opens, score_ranges}
 use Rattle.pentrace.specs.Texts.{Line, lines_text, open_text, refusal_text}
 use Rattle.ranking.specs.Memory.{MemoryParts}
 use Rattle.refusal.specs.declared.Refusal.TheVariants.{ShortMemory, WordCount}

@@ -1,6 +1,7 @@
 -- What a script that is read line by line has come to, and what a line does to it.
 use Rattle.pentrace.specs.Orders.{Reads}
-use Rattle.pentrace.specs.Script.{PartText, Writes}
+use Rattle.console.specs.Answers.{Writes}
+use Rattle.pentrace.specs.Script.{PartText}
 use Rattle.pentrace.specs.Texts.{Line, too_many_text}
 use Rattle.pentrace.specs.declared.Order.TheVariants.{Open, Call as Asks}
 use Rattle.pentrace.specs.declared.Order.{Order}

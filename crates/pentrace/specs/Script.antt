@@ -1,4 +1,8 @@
 -- The text that a script is answered with: part by part, from `open` to `open`.
+use Rattle.console.specs.Answers.{Writes}
+use Rattle.console.specs.Lines.{Short}
+use Rattle.console.specs.declared.LineError.{LineError}
+use Rattle.console.specs.declared.LineError.TheVariants.{TooLong, Io}
 use Rattle.pentrace.specs.Orders.{Reads}
 use Rattle.pentrace.specs.Texts.{Line, lines_text, open_text, refusal_text, too_many_text}
 use Rattle.pentrace.specs.declared.ScriptEnd.TheVariants.{Whole, TooMany}
@@ -11,9 +15,8 @@ use Rattle.run.specs.Law.{Keeps}
 use Rattle.run.specs.declared.Call.{Call}
 use Rattle.run.specs.declared.Turn.{Turn}
 use Rattle.std.specs.Global.{Vec}
-use Rattle.std.specs.Io.KnownBytes.{Appends}
 use Rattle.std.specs.List.{AllZip, filter_map}
-use Rattle.std.specs.Prelude.{◌≡◌, ℕ, ◌+◌, ◌<◌, ◌≤◌, Bool, true, false, ◌&&◌, nat_lt, neg_ℤ, pos, List, [], ◌∷◌, ◌++◌, length, map, reverse, take, codes, Some, None, Ok, Err, Option, Result}
+use Rattle.std.specs.Prelude.{◌≡◌, ℕ, ◌+◌, ◌<◌, ◌≤◌, Bool, true, false, ◌&&◌, nat_lt, neg_ℤ, pos, List, [], ◌∷◌, ◌++◌, length, map, reverse, take, codes, All, Some, None, Ok, Err, Option, Result, ⊤}
 use Rattle.std.specs.Result.{result_ok}
 use Rattle.weight.specs.Numbers.{Score, score_worth}
 use Rattle.weight.specs.Range.{Range, limit}
@@ -52,10 +55,6 @@ abbrev pub PartText : Option ℕ → List Line → List ℕ → Type 0
 PartText None lines text = text ≡ lines_text 0 lines []
 PartText (Some words) lines text = SheetText (opens words) words lines text
 
--- a text that is one of these was written behind what the writer held, where that is known
-abbrev pub Writes : Option (List ℕ) → Option (List ℕ) → (List ℕ → Type 0) → Type 0
-Writes before after Is = (text : List ℕ) × Is text × Appends before after text
-
 -- ---- the parts of a script, by what each of its lines asks for
 
 -- the words of the `open`, none before the first; the number of the line behind it; and the lines up to the next `open`
@@ -72,14 +71,14 @@ front n (Some (Asks call) ∷ orders) = Ok call ∷ front (n + 1) orders
 front n (None ∷ orders) = Err n ∷ front (n + 1) orders
 
 -- a part begins at each `open`
-abbrev pub opened : ℕ → List (Option Order) → List Piece
-opened n [] = []
-opened n (Some (Open words) ∷ orders) = record { words = Some words; first = n + 1; lines = front (n + 1) orders } ∷ opened (n + 1) orders
-opened n (Some (Asks call) ∷ orders) = opened (n + 1) orders
-opened n (None ∷ orders) = opened (n + 1) orders
+abbrev pub opened_parts : ℕ → List (Option Order) → List Piece
+opened_parts n [] = []
+opened_parts n (Some (Open words) ∷ orders) = record { words = Some words; first = n + 1; lines = front (n + 1) orders } ∷ opened_parts (n + 1) orders
+opened_parts n (Some (Asks call) ∷ orders) = opened_parts (n + 1) orders
+opened_parts n (None ∷ orders) = opened_parts (n + 1) orders
 
 abbrev pub parts : List (Option Order) → List Piece
-parts orders = record { words = None; first = 1; lines = front 1 orders } ∷ opened 1 orders
+parts orders = record { words = None; first = 1; lines = front 1 orders } ∷ opened_parts 1 orders
 
 -- ---- the script
 
@@ -93,5 +92,25 @@ PartsText (part ∷ parts) end text =
 -- how the script of these lines ends, and the text that answers it; what stands behind the first line too many is not read
 abbrev pub ScriptText : List (List ℕ) → ScriptEnd → List ℕ → Type 0
 ScriptText lines end text =
-    (read unread : List (List ℕ)) × (lines ≡ read ++ unread) × (end ≡ Whole → unread ≡ [])
+    (read unread : List (List ℕ)) × (lines ≡ read ++ unread) × (end ≡ Whole → unread ≡ []) × All Short read
     × ((orders : List (Option Order)) × AllZip Reads read orders × PartsText (parts orders) end text)
+
+-- the text that answers these lines where the next is too long: each was read, and the parts that ended among them are answered;
+-- the last part waits for more lines, and has no answer
+abbrev pub EndedText : List (List ℕ) → List ℕ → Type 0
+EndedText read text = All Short read
+    × ((orders : List (Option Order)) × AllZip Reads read orders
+    × ((ended : List Piece) × (last : Piece) × (parts orders ≡ ended ++ last ∷ []) × (length last.lines ≤ 65536) × PartsText ended Whole text))
+
+-- what was written for the lines of a script: their text, or, where one is too long, the text of the parts that ended before it;
+-- what was written where reading or writing failed, or there is no memory, is not said
+abbrev pub ScriptAnswered : List (List ℕ) → Result ScriptEnd LineError → (held holds : Option (List ℕ)) → Type 0
+ScriptAnswered lines (Ok end) held holds = Writes held holds (ScriptText lines end)
+ScriptAnswered lines (Err TooLong) held holds = (before : List (List ℕ)) × (long : List ℕ) × (rest : List (List ℕ)) × (lines ≡ before ++ long ∷ rest) × (65535 < length long)
+    × Writes held holds (EndedText before)
+ScriptAnswered lines (Err (Io error)) held holds = ⊤
+
+-- ---- what is to show
+-- a script settles how it ends and its text, to the byte
+abbrev pub OneText : Type 0
+OneText = (lines : List (List ℕ)) (end end' : ScriptEnd) (text text' : List ℕ) → ScriptText lines end text → ScriptText lines end' text' → (end ≡ end') × (text ≡ text')

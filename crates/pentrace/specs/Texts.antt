@@ -51,13 +51,13 @@ call_text (Take room) = codes "take " ++ decimal room
 call_text End = codes "end"
 
 -- the heads, a blank before each
-abbrev pub heads_text : List ℕ → List ℕ
-heads_text [] = []
-heads_text (head ∷ heads) = 32 ∷ (decimal head ++ heads_text heads)
+abbrev pub handed_heads_text : List ℕ → List ℕ
+handed_heads_text [] = []
+handed_heads_text (head ∷ heads) = 32 ∷ (decimal head ++ handed_heads_text heads)
 
 -- a tree that was handed out
 abbrev pub handed_text : ℕ → List ℕ → Taken Score → List ℕ
-handed_text words heads taken = codes "tree " ++ (decimal taken.count ++ (codes ", weight " ++ (weight_text taken.weight ++ (codes ", heads" ++ heads_text (take words heads)))))
+handed_text words heads taken = codes "tree " ++ (decimal taken.count ++ (codes ", weight " ++ (weight_text taken.weight ++ (codes ", heads" ++ handed_heads_text (take words heads)))))
 
 -- what the call answered on a sheet of so many words
 abbrev pub answer_text : ℕ → Call Score → Answer Score → List ℕ

@@ -5,14 +5,14 @@
 
 mod script;
 
-ghost use Rattle.pentrace.specs.Orders.{Said, Reads, held};
+ghost use Rattle.console.specs.Answers.{Writes};
 ghost use Rattle.console.specs.Lines.{lines_in};
-ghost use Rattle.pentrace.specs.Script.{calls_in, opens, PartText, ScriptText, SheetText, TurnsOf, Writes};
-ghost use Rattle.pentrace.specs.Texts.{call_text, heads_text, handed_text, answer_text, ending_text, misplaced_text, refusal_text, turn_text, lines_text, open_text, too_many_text};
+ghost use Rattle.pentrace.specs.Orders.{Said, Reads, held};
+ghost use Rattle.pentrace.specs.Script.{calls_in, opens, OneText, PartText, ScriptAnswered, SheetText, TurnsOf};
+ghost use Rattle.pentrace.specs.Texts.{call_text, handed_heads_text, handed_text, answer_text, ending_text, misplaced_text, refusal_text, turn_text, lines_text, open_text, too_many_text};
 ghost use Rattle.run.specs.declared.Call.{Call};
-ghost use Rattle.run.specs.declared.Turn.{Turn};
 ghost use Rattle.std.specs.Io.KnownBytes.{Appends};
-ghost use Rattle.std.specs.Prelude.{◌≡◌, ℕ, ◌<◌, ◌≤◌, ◌^◌, List, Result, [], ◌∷◌, ◌++◌, length, IfOk, IfSome, vec_len, string_bytes, OnOk};
+ghost use Rattle.std.specs.Prelude.{◌≡◌, ℕ, List, Result, ◌∷◌, ◌++◌, IfOk, IfSome, string_bytes, OnOk};
 ghost use Rattle.std.specs.Slice.Iter.{iter_rest};
 ghost use Rattle.weight.specs.Numbers.{Score};
 
@@ -116,7 +116,7 @@ fn call_text(heap: Global, call: &Call<Score>) -> Result<String, AllocError>
 
 // Puts the heads behind the text, a blank before each.
 fn push_heads(heap: Global, text: &mut String, heads: &[u8]) -> Result<(), AllocError>
-    ensures { IfOk result (λ _. string_bytes text.new ≡ string_bytes text.old ++ heads_text heads.now) }
+    ensures { IfOk result (λ _. string_bytes text.new ≡ string_bytes text.old ++ handed_heads_text heads.now) }
 {
     for head in heads {
         let head = format!(in heap; " {head}")?;
@@ -126,7 +126,7 @@ fn push_heads(heap: Global, text: &mut String, heads: &[u8]) -> Result<(), Alloc
 }
 
 // A tree that was handed out: its number, its weight and its heads.
-fn tree_text(
+fn handed_text(
     heap: Global,
     words: usize,
     heads: &[u8; 40],
@@ -177,7 +177,7 @@ fn answer_text(heap: Global, words: usize, turn: &Turn<Score>) -> Result<String,
 {
     match &turn.answer {
         Answer::Done => String::from_str(heap, "done"),
-        Answer::Handed(heads, taken) => tree_text(heap, words, heads, taken),
+        Answer::Handed(heads, taken) => handed_text(heap, words, heads, taken),
         Answer::Refused(why) => refusal_text(heap, *why),
         Answer::Misplaced => String::from_str(heap, misplaced(turn.call)),
     }
@@ -305,13 +305,14 @@ fn too_many_text(heap: Global, number: usize) -> Result<String, AllocError>
 }
 
 /// Reads a script, and writes each of its lines with its answer, part by part; a reader or a writer that fails, and no memory, end it.
+/// A line of more than 65,535 bytes ends it too: the parts that ended before that line are written, and the one that it stands in is not.
 /// Of a script that does not end, it reads no more than a part that is too long.
 pub fn run_script<R: BufRead + Drop, W: Write>(
     heap: Global,
     input: R,
     out: &mut W,
 ) -> Result<ScriptEnd, LineError>
-    ensures { IfOk result (λ end. IfSome (R.remaining input) (λ bytes. length bytes < 2 ^ 64 → Writes (W.contents out.old) (W.contents out.new) (ScriptText (lines_in bytes) end))) }
+    ensures { IfSome (R.remaining input) (λ bytes. ScriptAnswered (lines_in bytes) result (W.contents out.old) (W.contents out.new)) }
 {
     let mut script = Script::new(heap);
     for line in lines_of(heap, input) {
@@ -322,6 +323,14 @@ pub fn run_script<R: BufRead + Drop, W: Write>(
     }
     script.finish(heap, out)?;
     Ok(ScriptEnd::Whole)
+}
+
+/// A script settles how it ends, and every byte that is written for it.
+pub fn laws()
+    ensures { OneText }
+{
+    // the calls settle what they are answered
+    run::laws::<Score>();
 }
 
 // Runs the script on standard input.

@@ -20,8 +20,9 @@ pub struct Script {
 }
 
 impl Script {
+    ghost use Rattle.console.specs.Answers.{Writes};
     ghost use Rattle.pentrace.specs.Reading.{LineKept, LineRead};
-    ghost use Rattle.pentrace.specs.Script.{PartText, Writes};
+    ghost use Rattle.pentrace.specs.Script.{PartText};
 
     /// Of which no line was read yet.
     pub fn new(heap: Global) -> Self

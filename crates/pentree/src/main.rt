@@ -2,14 +2,13 @@
 // A line is the number of words, then head, dependent and score of each arc.
 #![tactic(auto)]
 
-ghost use Rattle.pentree.specs.Texts.{arc_text, puts_text, head_lines, BracketsOf, TreeText, AnswerText, TellsSearch, OpenedText, memory_lengths, TellsLine};
+ghost use Rattle.pentree.specs.Texts.{arc_text, puts_text, head_lines, BracketsOf, TreeText, AnswerText, PutsHeld, TellsHeld, OpenedText, memory_lengths, TellsLine, OneText};
 ghost use Rattle.refusal.specs.Refusals.{refused_text};
+ghost use Rattle.search.specs.Answer.{LineOfWords};
 ghost use Rattle.sheet.specs.Calls.{open_check};
 ghost use Rattle.console.specs.Answers.{AnswersEach};
 ghost use Rattle.console.specs.Lines.{lines_in};
-ghost use Rattle.search.specs.Arcs.{allowed, weight_at};
 ghost use Rattle.std.specs.Prelude.{◌≡◌, ◌<◌, ℕ, ◌++◌, [], ◌∷◌, length, take, IfOk, IfSome, string_bytes};
-ghost use Rattle.weight.specs.Numbers.{score_worth};
 
 use console::{Answer, LineError, answer_lines, ended, refuse_arguments};
 use desk::Memory;
@@ -57,7 +56,8 @@ fn puts_text(
     arcs: &[u8],
     memory: &mut Memory<Score>,
 ) -> Result<Vec<u8>, AllocError>
-    ensures { IfOk result (λ text. text.items ≡ puts_text sheet.now.words arcs.now) }
+    ensures told { IfOk result (λ text. text.items ≡ puts_text sheet.now.words arcs.now) }
+    ensures law { IfOk result (λ text. PutsHeld sheet.now.words arcs.now memory.old.weights.items memory.new.weights.items memory.old.sets.items memory.new.sets.items) }
 {
     let mut text = Vec::new(heap);
     let mut rest = arcs;
@@ -101,7 +101,7 @@ fn brackets_of(heap: Global, heads: &[u8]) -> Result<Vec<u8>, AllocError>
 
 // The tree that was found.
 #[tactic(auto, using(std::proofs::Common::append_assoc))]
-fn tree_text(heap: Global, weight: Score, heads: &[u8]) -> Result<Vec<u8>, AllocError>
+fn told_tree(heap: Global, weight: Score, heads: &[u8]) -> Result<Vec<u8>, AllocError>
     ensures { IfOk result (λ text. TreeText weight heads.now text.items) }
 {
     let value = weight.value();
@@ -131,13 +131,14 @@ fn answer_text(
 {
     match found {
         None => Vec::from_slice(heap, b"no tree\n"),
-        Some(weight) => tree_text(heap, weight, heads.get(..words).unwrap_or(heads)),
+        Some(weight) => told_tree(heap, weight, heads.get(..words).unwrap_or(heads)),
     }
 }
 
 // Searches the arcs that stand, and tells what was found.
 fn found_text(heap: Global, words: usize, memory: &mut Memory<Score>) -> Result<Vec<u8>, AllocError>
-    ensures { IfOk result (λ text. TellsSearch words (allowed memory.old.sets.items []) (weight_at score_worth words memory.old.weights.items) text.items) }
+    requires { LineOfWords words }
+    ensures { IfOk result (λ text. TellsHeld words memory.old.weights.items memory.old.sets.items text.items) }
 {
     let mut heads = [0; 40];
     match memory.search(words, &[], &mut heads) {
@@ -205,6 +206,15 @@ pub fn search_lines<R: BufRead + Drop, W: Write>(
 {
     let memory = Memory::new(heap)?;
     answer_lines(heap, input, out, &mut Searcher { heap, memory })
+}
+
+/// A line settles every byte that is written for it.
+pub fn laws()
+    ensures { OneText }
+{
+    // it spells one list of bytes only, and a search of the same arcs finds one tree only
+    reading::laws();
+    search::laws::<Score>();
 }
 
 // Searches the lines of standard input.

@@ -8,7 +8,7 @@ ghost use Rattle.ranking.specs.Memory.{MemoryParts, memory_of, StandsFor};
 ghost use Rattle.ranking.specs.Order.{OneOrder};
 ghost use Rattle.ranking.specs.Steps.{NextTree, RoomFor};
 ghost use Rattle.ranking.specs.Takes.{FirstIsHeaviest, Settled};
-ghost use Rattle.search.specs.Space.{KeptBeyond, RoomIn, SameParts, space_of};
+ghost use Rattle.search.specs.Space.{SpaceKeptBeyond, RoomIn, SameParts, space_of};
 ghost use Rattle.sheet.specs.Arcs.{Arcs, HoldsArcs};
 ghost use Rattle.sheet.specs.Calls.{checked};
 
@@ -95,7 +95,7 @@ impl<K: Kind + Copy> Ranking<K> {
         ensures sets { sets.new ≡ sets.old }
         ensures next { NextTree K.Kind.worth K.Kind.ranges self.now weights.now sets.old candidates.old candidates.new result }
         ensures parts { SameParts working.old working.new }
-        ensures listed { KeptBeyond self.now.sheet.words (space_of working.old) (space_of working.new) }
+        ensures listed { SpaceKeptBeyond self.now.sheet.words (space_of working.old) (space_of working.new) }
     {
         if self.taken == 0 {
             let first = self

@@ -13,6 +13,7 @@ use weight::{Cost, Mark, Opens, Score};
 
 /// A kind whose weights can be drawn at random, from so few that many are equal.
 pub trait Drawn: Opens {
+    /// The next weight.
     fn drawn(random: &mut Random) -> Self;
 }
 
@@ -51,6 +52,7 @@ pub struct Trial<K> {
 }
 
 impl<K: Drawn + Copy> Trial<K> {
+    /// Memory in which no arc stands, and an empty record.
     pub fn new(heap: Global, seed: u64) -> Result<Trial<K>, AllocError> {
         Ok(Trial {
             memory: Memory::new(heap)?,

@@ -1,10 +1,11 @@
 -- Reading a line of numbers gives back the numbers whose text it is, and fails at every other line.
-use Rattle.std.proofs.Common.{◌≡◌, ℕ, ◌+◌, ◌-◌, ◌*◌, ◌/◌, ◌%◌, ◌^◌, ◌<◌, ◌≤◌, Bool, true, false, cond, ◌&&◌, eqb, ltb, leb, ◌⊎◌, List, [], ◌∷◌, ◌++◌, length, Some, None, decimal, Option, sym, refl, ap, ◌∙◌, subst, inl, inr, append_assoc, append-nil, arith, length-append}
+use Rattle.std.proofs.Common.{◌≡◌, ℕ, ◌+◌, ◌-◌, ◌*◌, ◌/◌, ◌%◌, ◌^◌, ◌<◌, ◌≤◌, Bool, true, false, cond, ◌&&◌, eqb, ltb, leb, ◌⊎◌, List, [], ◌∷◌, ◌++◌, length, Some, None, decimal, Option, sym, refl, ap, ◌∙◌, inl, inr, append_assoc, append-nil, arith, length-append}
 use Rattle.reading.specs.Reading.{with_digit}
 use Rattle.reading.specs.Spaced.{Spells, SpellsNone, SpelledOnce}
 use Rattle.std.proofs.lemmas.Fmt.{decimal_digit, decimal_step, decimal_by_steps}
-use Rattle.std.proofs.lemmas.Bool.{cases_Bool, both_ways, and_parts, and_from, leb-true, le-leb, eqb-true, eqb-false, ne_eqb, ltb-false, le-ltb}
-use Rattle.std.specs.List.{AllByRecursion}
+use Rattle.std.proofs.lemmas.Bool.{cases_Bool, both_ways, and_from, le-leb, eqb-false, ne_eqb, ltb-false, le-ltb}
+use Rattle.std.specs.List.{All, AllByRecursion}
+use Rattle.std.proofs.lemmas.List.Elements.{All-nil, All-push, recursion_from_All}
 use Rattle.text.specs.Spaced.{spaced}
 
 abbrev is_digit : ℕ → Bool
@@ -67,8 +68,18 @@ spaced_last [] n = sym (append-nil (decimal n))
 spaced_last (m ∷ []) n = ap (λ l. decimal m ++ (32 ∷ l)) (spaced_last [] n)
 spaced_last (m ∷ k ∷ ns) n = ap (λ l. decimal m ++ (32 ∷ l)) (spaced_last (k ∷ ns) n)
 
-pub all_read : (line ns : List ℕ) (n : ℕ) → in_front ns (decimal n ++ []) ≡ line → Spells line (ns ++ (n ∷ []))
-all_read line ns n e = (omega (arith, length-append ns (n ∷ [])), sym (spaced_last ns n ∙ e))
+-- each number is a byte
+pub record Bytes (ns : List ℕ) : Type 0 where
+  pub each : All (λ n. n < 256) ns
+
+pub no_bytes : Bytes []
+no_bytes = record { each = All-nil (λ n. n < 256) }
+
+pub byte_more : (ns : List ℕ) (n : ℕ) → Bytes ns → n < 256 → Bytes (ns ++ (n ∷ []))
+byte_more ns n bytes small = record { each = All-push (λ m. m < 256) ns n bytes.each small }
+
+pub all_read : (line ns : List ℕ) (n : ℕ) → Bytes ns → n < 256 → in_front ns (decimal n ++ []) ≡ line → Spells line (ns ++ (n ∷ []))
+all_read line ns n bytes small e = record { bytes = (byte_more ns n bytes small).each; some = omega (arith, length-append ns (n ∷ [])); text = sym (spaced_last ns n ∙ e) }
 
 digit_is : (d : ℕ) → d < 10 → is_digit (48 + d) ≡ true
 digit_is d h = and_from (leb 48 (48 + d)) (leb (48 + d) 57) (le-leb 48 (48 + d) (omega arith)) (le-leb (48 + d) 57 (omega arith))
@@ -98,12 +109,15 @@ complete before (n ∷ m ∷ ns) small some =
     ∙ complete (before ++ (n ∷ [])) (m ∷ ns) small.1 (omega arith)
     ∙ ap Some (append_assoc before (n ∷ []) (m ∷ ns))
 
+read_spelled : (line ns : List ℕ) → Spells line ns → read_on [] None line ≡ Some ns
+read_spelled line ns s = ap (read_on [] None) s.text ∙ complete [] ns (recursion_from_All (λ n. n < 256) ns s.bytes) s.some
+
 pub read_none : (line : List ℕ) → read_on [] None line ≡ None → SpellsNone line
-read_none line e ns small spells =
-    let yes : Some ns ≡ None = sym (complete [] ns small spells.0) ∙ ap (read_on [] None) (sym spells.1) ∙ e in
+read_none line e ns spells =
+    let yes : Some ns ≡ None = sym (read_spelled line ns spells) ∙ e in
     both_ways true (cc) refl
 
 pub spelled_once : SpelledOnce
-spelled_once line ns ms small small' spells spells' =
-    let same : Some ns ≡ Some ms = sym (complete [] ns small spells.0) ∙ ap (read_on [] None) (sym spells.1 ∙ spells'.1) ∙ complete [] ms small' spells'.0 in
+spelled_once line ns ms spells spells' =
+    let same : Some ns ≡ Some ms = sym (read_spelled line ns spells) ∙ read_spelled line ms spells' in
     cc

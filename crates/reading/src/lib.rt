@@ -9,7 +9,7 @@ use std::alloc::{AllocError, Global};
 
 /// The numbers of a line: decimal, without leading zeros, 0 to 255, one blank between.
 /// None where the line is no such list: it is no error, so `return` gives it back and not `?`.
-#[tactic(auto, using(crate::proofs::Readings::read_none, crate::proofs::Readings::all_read, crate::proofs::Readings::digit_more, crate::proofs::Readings::front_more, std::proofs::lemmas::List::drop_more, std::proofs::lemmas::List::drop_all))]
+#[tactic(auto, using(crate::proofs::Readings::read_none, crate::proofs::Readings::all_read, crate::proofs::Readings::no_bytes, crate::proofs::Readings::byte_more, crate::proofs::Readings::digit_more, crate::proofs::Readings::front_more, std::proofs::lemmas::List::drop_more, std::proofs::lemmas::List::drop_all))]
 pub fn read_spaced(heap: Global, line: &[u8]) -> Result<Option<Vec<u8>>, AllocError>
     ensures { IfOk result (λ o. MatchOption o (SpellsNone line.now) (λ v. Spells line.now v.items)) }
 {

@@ -38,10 +38,15 @@ pub struct LentMemory<'a, K> {
 /// A call on a sheet or on its ranking. A take says how many bytes of space it is given.
 #[derive(Clone, Copy, PartialEq, Eq, Debug)]
 pub enum Call<K> {
+    /// gives the arc, from this head to this dependent, this weight
     Put(usize, usize, K),
+    /// makes the arc, from this head to this dependent, absent
     Strike(usize, usize),
+    /// turns the sheet into a ranking with no tree taken
     Begin,
+    /// takes a tree into so many bytes of space
     Take(usize),
+    /// turns the ranking back into the sheet
     End,
 }
 

@@ -26,7 +26,7 @@ abbrev pub space_of : {K : Type 0} → Working K → Space K
 space_of working = record { nodes = working.nodes.now; merges = working.merges.now; potentials = working.potentials.now }
 
 -- beyond its listed length for n words each part is as it was
-pub record KeptBeyond {K : Type 0} (n : ℕ) (before after : Space K) : Type 0 where
+pub record SpaceKeptBeyond {K : Type 0} (n : ℕ) (before after : Space K) : Type 0 where
   pub nodes : drop (n + 1) after.nodes ≡ drop (n + 1) before.nodes
   pub merges : drop (n - 1) after.merges ≡ drop (n - 1) before.merges
   pub potentials : drop (n + 1) after.potentials ≡ drop (n + 1) before.potentials
@@ -34,4 +34,4 @@ pub record KeptBeyond {K : Type 0} (n : ℕ) (before after : Space K) : Type 0 w
 -- a refusal leaves the space as it was, and an answer all that lies beyond the listed lengths
 abbrev pub KeptIn : {K : Type 0} (n : ℕ) (before after : Space K) → Result (Option K) Refusal → Type 0
 KeptIn n before after (Err e) = after ≡ before
-KeptIn n before after (Ok told) = KeptBeyond n before after
+KeptIn n before after (Ok told) = SpaceKeptBeyond n before after

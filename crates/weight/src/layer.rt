@@ -10,6 +10,7 @@ use refusal::Refusal;
 use std::cmp::Ordering;
 use std::marker::PhantomData;
 
+/// A place in the span `S`, in front of a weight of the kind `K`.
 #[derive(Clone, Copy, PartialEq, Eq, Debug)]
 pub struct Layer<S, K> {
     place: i64,

@@ -58,6 +58,7 @@ pub trait Kind {
         ensures exact { DifferenceIs (worth self.now) (worth other.now) (worth result) }
         ensures stops { difference_stops self.now other.now result };
 
+    /// Less, equal or greater, by the first place where the two differ.
     fn compare(&self, other: &Self) -> Ordering
         ensures { result ≡ order (worth self.now) (worth other.now) };
 

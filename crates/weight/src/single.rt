@@ -10,6 +10,7 @@ use refusal::Refusal;
 use std::cmp::Ordering;
 use std::marker::PhantomData;
 
+/// A weight of one place, in the span `S`.
 #[derive(Clone, Copy, PartialEq, Eq, Debug)]
 pub struct Single<S> {
     value: i64,
@@ -23,6 +24,7 @@ pub type Score = Single<ScoreSpan>;
 pub type Cost = Single<CostSpan>;
 
 impl Score {
+    /// The score of this value.
     pub fn new(value: i64) -> Score
         ensures { score_worth result ≡ value ∷ [] }
     {
@@ -34,6 +36,7 @@ impl Score {
 }
 
 impl Cost {
+    /// The weight of this cost: its negative.
     pub fn new(cost: u32) -> Cost
         ensures { cost_worth result ≡ neg_ℤ (pos cost) ∷ [] }
     {

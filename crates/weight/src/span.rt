@@ -4,9 +4,12 @@ ghost use Rattle.std.specs.Prelude.{[], ◌∷◌, ℤ, pos, neg_ℤ};
 ghost use Rattle.std.specs.Int.Signed.{le_z_yes};
 ghost use Rattle.weight.specs.Range.{Ranged, limit};
 
+/// Where a place of an entry lies.
 pub trait Span {
+    /// The least number of an entry.
     const LEAST: i64;
 
+    /// The greatest number of an entry.
     const GREATEST: i64;
 
     ghost LEAST: { ℤ };

@@ -3,6 +3,7 @@ ghost use Rattle.std.specs.Prelude.{[], ◌∷◌};
 ghost use Rattle.weight.specs.Stops.{PlaceSum, PlaceDifference};
 ghost use Rattle.weight.specs.Worth.{SumIs, DifferenceIs};
 
+/// The sum of two places, or the end of 64 bits that it lies beyond.
 pub fn place_sum(a: i64, b: i64) -> i64
     ensures exact { SumIs (a ∷ []) (b ∷ []) (result ∷ []) }
     ensures stops { PlaceSum a b result }
@@ -10,6 +11,7 @@ pub fn place_sum(a: i64, b: i64) -> i64
     a.saturating_add(b)
 }
 
+/// The difference of two places, or the end of 64 bits that it lies beyond.
 pub fn place_difference(a: i64, b: i64) -> i64
     ensures exact { DifferenceIs (a ∷ []) (b ∷ []) (result ∷ []) }
     ensures stops { PlaceDifference a b result }

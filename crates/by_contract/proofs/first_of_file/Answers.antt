@@ -1,7 +1,7 @@
 use Rattle.by_contract.proofs.OfFiles.{kept}
 use Rattle.by_contract.proofs.first_of_file.Goals as goal
-use Rattle.by_contract.specs.Law.{lengths_lent}
 use Rattle.by_contract.specs.declared.FirstTaken.{FirstTaken}
+use Rattle.ranking.specs.Calls.{part_lengths}
 use Rattle.ranking.specs.Memory.{memory_of, MemoryParts}
 use Rattle.std.proofs.Common.{◌≡◌, Err, refl, ap, ◌∙◌}
 use Rattle.std.proofs.lemmas.Result.{err_from_is_err_and}
@@ -15,10 +15,10 @@ returns-in_err-sheet g c =
 pub returns : goal.returns
 returns g c =
     let given = c.args in
-    let lengths = lengths_lent given.weights.now given.sets.now given.candidates.now given.nodes.now given.merges.now given.potentials.now in
+    let lent : MemoryParts g.row.K.Denot = record { weights = given.weights.now; sets = given.sets.now; candidates = given.candidates.now; nodes = given.nodes.now; merges = given.merges.now; potentials = given.potentials.now } in
     let answer : FirstTaken g.row.K.Denot = record { words = c.words-words.result; taken = c.take-taken.result; heads = c.take-taken.new.space } in
     let memory : MemoryParts g.row.K.Denot =
     record { weights = c.read.new.weights; sets = c.read.new.sets; candidates = given.candidates.now; nodes = given.nodes.now; merges = given.merges.now; potentials = given.potentials.now } in
     let memory' : MemoryParts g.row.K.Denot = memory_of c.read.new.weights c.take-taken.new.sets c.take-taken.new.candidates c.take-taken.new.working in
-    kept g.K.Recorded.format g.K.Kind.worth g.K.Kind.ranges lengths given.file.now c.in_ok-sheet.sheet answer given.weights.now given.sets.now _ c.begin-ranking.result c.take-taken.new.ranking memory memory'
+    kept g.K.Recorded.format g.K.Kind.worth g.K.Kind.ranges (part_lengths lent) given.file.now c.in_ok-sheet.sheet answer given.weights.now given.sets.now _ c.begin-ranking.result c.take-taken.new.ranking memory memory'
     c.words-words.ensures (rw (c.read.auto.weights, c.read.auto.sets) refl) c.in_ok-sheet.ensures.answer c.in_ok-sheet.ensures.law c.begin-ranking.ensures.words c.begin-ranking.ensures.law refl c.take-taken.ensures.took

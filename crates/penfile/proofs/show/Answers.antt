@@ -18,7 +18,7 @@ write_arcs-requires g c =
     let memory = parts_of c.read_sheet.new.memory in
     let arcs = arcs_in n memory.weights memory.sets in
     let is : c.deref.result.now ≡ all_standing n arcs n = c.deref.ensures.value ∙ c.in_ok-arcs-in-Ok.ensures ∙ ap (λ (k : ℕ). all_standing k (arcs_in k memory.weights memory.sets) k) c.words.ensures in
-    subst (AllByRecursion (λ (arc : Standing g.row.K.Denot). entry_in g.K.Kind.ranges (worth arc.weight) ≡ true)) (sym is) (all_entries worth g.K.Kind.ranges arcs c.in-Ok.ensures.1.entries n 1 n)
+    subst (AllByRecursion (λ (arc : Standing g.row.K.Denot). entry_in g.K.Kind.ranges (worth arc.weight) ≡ true)) (sym is) (all_entries worth g.K.Kind.ranges arcs c.in-Ok.ensures.truly.1.entries n 1 n)
 
 pub returns : goal.returns
 returns g c =
@@ -31,5 +31,5 @@ returns g c =
     let is : c.deref.result.now ≡ all_standing n arcs n = c.deref.ensures.value ∙ c.in_ok-arcs-in-Ok.ensures ∙ ap (λ (k : ℕ). all_standing k (arcs_in k memory.weights memory.sets) k) c.words.ensures in
     let records : Appends (out c.args.out.now) (out c.write_records.new.out) (record_lines f.width c.args.file.now (record_count f.width c.args.file.now)) =
     subst (λ (k : ℕ). Appends (out c.args.out.now) (out c.write_records.new.out) (record_lines k c.args.file.now (record_count k c.args.file.now))) c.bytes.ensures c.in_ok-write_records-in-Ok.ensures in
-    all_said f worth c.args.file.now n arcs c.write_arcs.result (out c.args.out.now) (out c.write_records.new.out) (out c.write_arcs.new.out) c.in-Ok.ensures.0 records
+    all_said f worth c.args.file.now n arcs c.write_arcs.result (out c.args.out.now) (out c.write_records.new.out) (out c.write_arcs.new.out) c.in-Ok.ensures.truly.0 records
     (subst (λ (l : List (Standing g.row.K.Denot)). OnOk c.write_arcs.result (Appends (out c.write_records.new.out) (out c.write_arcs.new.out) (arc_lines worth l))) is c.write_arcs.ensures)

@@ -1,4 +1,4 @@
-use Rattle.std.proofs.Common.{◌≡◌, ℕ, ◌≤◌, false, sym, take, length, Ok, Err, subst, rules, arith}
+use Rattle.std.proofs.Common.{◌≡◌, ℕ, ◌≤◌, false, sym, take, Ok, subst, rules}
 use Rattle.desk.specs.Parts.{parts_of}
 use Rattle.filing.proofs.Outcomes.{long_enough}
 use Rattle.lines.specs.Lines.{tree_text}

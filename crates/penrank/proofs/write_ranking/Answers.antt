@@ -1,4 +1,4 @@
-use Rattle.std.proofs.Common.{◌≡◌, ℕ, Bool, true, false, sym, subst, rules}
+use Rattle.std.proofs.Common.{ℕ, Bool, true, false, sym, subst, rules}
 use Rattle.desk.specs.Parts.{parts_of}
 use Rattle.penrank.proofs.Steps.{begun, more, ended}
 use Rattle.penrank.specs.Steps.{TreeWritten, LastWritten, LineWritten}

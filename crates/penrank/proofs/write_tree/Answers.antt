@@ -1,4 +1,4 @@
-use Rattle.std.proofs.Common.{◌<◌, ◌≤◌, ◌^◌, length, arith}
+use Rattle.std.proofs.Common.{◌≤◌, length, arith}
 use Rattle.lines.proofs.Lengths.{line_fits, tree_short}
 use Rattle.lines.specs.Lines.{tree_text}
 use Rattle.penrank.proofs.Weights.{all_bytes}

@@ -1,5 +1,5 @@
 use Rattle.std.proofs.Common.{◌++◌, string_bytes, ◌+◌, drop, refl, ◌∙◌, ap}
-use Rattle.pentrace.specs.Texts.{heads_text}
+use Rattle.pentrace.specs.Texts.{handed_heads_text}
 use Rattle.pentrace.proofs.Heads.{next, none}
 use Rattle.pentrace.proofs.push_heads.Goals as goal
 
@@ -11,7 +11,7 @@ loop-head-init c = refl
 pub loop-head-preserved : goal.loop-head-preserved
 loop-head-preserved c =
     let before = string_bytes c.loop-head.text in
-    let behind = heads_text (drop (c.loop-head.head-index + 1) c.args.heads.now) in
+    let behind = handed_heads_text (drop (c.loop-head.head-index + 1) c.args.heads.now) in
     let put = c.in_ok-push_str.ensures.bytes ∙ ap (λ s. before ++ s) (c.as_str.ensures.value ∙ c.in_ok-head.ensures.ok) in
     ap (λ s. s ++ behind) put ∙ (next before c.args.heads.now c.loop-head.head-index c.loop-head-test.true ∙ c.loop-head.invariant)
 
