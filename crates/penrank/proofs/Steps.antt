@@ -1,12 +1,12 @@
 -- From one line to the next.
-use Rattle.std.proofs.Common.{◌≡◌, ◌≢◌, ℕ, ◌-◌, ◌<◌, List, [], ◌∷◌, ◌++◌, Ok, Err, Option, Result, IsOk, refl, subst, arith}
+use Rattle.std.proofs.Common.{◌≡◌, ◌≢◌, ℕ, ◌-◌, ◌<◌, List, [], ◌∷◌, ◌++◌, Bool, true, false, Ok, Err, Option, Result, IsOk, refl, subst, arith}
 use Rattle.console.specs.Answers.{Writes}
 use Rattle.lines.specs.Ends.{ToldEnd, end_number}
 use Rattle.lines.specs.Lines.{tree_text, last_text}
 use Rattle.lines.specs.declared.Last.TheVariants.{NoTree as NoTreeLast, NoMore as NoMoreLast, Fifty as FiftyLast}
 use Rattle.lines.specs.declared.Last.{Last}
 use Rattle.penrank.specs.Rankings.{RankingText, tree_lines}
-use Rattle.penrank.specs.Steps.{TreeWritten, LastWritten, LinesSoFar}
+use Rattle.penrank.specs.Steps.{TreeWritten, LastWritten, LineWritten, LinesSoFar}
 use Rattle.ranking.specs.Calls.{after_take}
 use Rattle.ranking.specs.Memory.{MemoryParts, StandsFor}
 use Rattle.ranking.specs.Takes.{Tells, NoneHanded}
@@ -59,8 +59,14 @@ module _ {K : Type 0} (worth : K → Worth) (ranges : List Range) (n : ℕ) (arc
   pub begun : (ranking : Ranking K) (memory : MemoryParts K) (before : Option (List ℕ)) → StandsFor worth ranges ranking memory arcs [] → LinesSoFar worth ranges n arcs ranking memory before before
   begun ranking memory before stands = record { trees = []; stands = stands; handed = tt; written = Appends-nil before }
 
+  -- what a take wrote, by the number of words and by whether it handed out a tree
+  line_by : (ts : List (List ℕ)) (ranking : Ranking K) (memory : MemoryParts K) (before after : Option (List ℕ)) (words : ℕ) (handed known : Bool) → words ≡ n → handed ≡ known
+      → LineWritten worth ranges words arcs ts ranking memory handed before after → LineWritten worth ranges n arcs ts ranking memory known before after
+  line_by ts ranking memory before after words handed known is told line =
+      subst (λ (b : Bool). LineWritten worth ranges n arcs ts ranking memory b before after) told (subst (λ (k : ℕ). LineWritten worth ranges k arcs ts ranking memory handed before after) is line)
+
   -- one line more
-  pub more : (ranking ranking' : Ranking K) (memory memory' : MemoryParts K) (before middle after : Option (List ℕ)) (so : LinesSoFar worth ranges n arcs ranking memory before middle) → TreeWritten worth ranges n arcs so.trees ranking' memory' middle after
+  more : (ranking ranking' : Ranking K) (memory memory' : MemoryParts K) (before middle after : Option (List ℕ)) (so : LinesSoFar worth ranges n arcs ranking memory before middle) → TreeWritten worth ranges n arcs so.trees ranking' memory' middle after
       → LinesSoFar worth ranges n arcs ranking' memory' before after × (50 - ranking'.taken < 50 - ranking.taken)
   more ranking ranking' memory memory' before middle after so next = (
     record {
@@ -72,10 +78,20 @@ module _ {K : Type 0} (worth : K → Worth) (ranges : List Range) (n : ℕ) (arc
     omega (arith, next.told.0.few, so.stands.counted, next.stands.counted),
   )
 
+  pub more_by : (ranking ranking' : Ranking K) (memory memory' : MemoryParts K) (before middle after : Option (List ℕ)) (words : ℕ) (handed : Bool) (so : LinesSoFar worth ranges n arcs ranking memory before middle) → words ≡ n → handed ≡ true
+      → LineWritten worth ranges words arcs so.trees ranking' memory' handed middle after → LinesSoFar worth ranges n arcs ranking' memory' before after × (50 - ranking'.taken < 50 - ranking.taken)
+  more_by ranking ranking' memory memory' before middle after words handed so is told line =
+      more ranking ranking' memory memory' before middle after so (line_by so.trees ranking' memory' middle after words handed true is told line)
+
   -- the whole text
-  pub ended : (ranking : Ranking K) (memory : MemoryParts K) (before middle after : Option (List ℕ)) (so : LinesSoFar worth ranges n arcs ranking memory before middle) → LastWritten worth ranges n arcs so.trees middle after → Writes before after (RankingText worth n arcs)
+  ended : (ranking : Ranking K) (memory : MemoryParts K) (before middle after : Option (List ℕ)) (so : LinesSoFar worth ranges n arcs ranking memory before middle) → LastWritten worth ranges n arcs so.trees middle after → Writes before after (RankingText worth n arcs)
   ended ranking memory before middle after so last = (
     tree_lines worth n arcs so.trees ++ last_text last.end,
     record { trees = so.trees; handed = so.handed; why = last.why; none = last.none; end = last.end; told = last.told; lines = refl },
     Appends-trans before middle after _ _ so.written last.written,
   )
+
+  pub ended_by : (ranking ranking' : Ranking K) (memory memory' : MemoryParts K) (before middle after : Option (List ℕ)) (words : ℕ) (handed : Bool) (so : LinesSoFar worth ranges n arcs ranking memory before middle) → words ≡ n → handed ≡ false
+      → LineWritten worth ranges words arcs so.trees ranking' memory' handed middle after → Writes before after (RankingText worth n arcs)
+  ended_by ranking ranking' memory memory' before middle after words handed so is told line =
+      ended ranking memory before middle after so (line_by so.trees ranking' memory' middle after words handed false is told line)
